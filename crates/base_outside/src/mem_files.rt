@@ -1,5 +1,5 @@
 // Files in memory, for tests.
-ghost use Rattle.std.specs.Prelude.{◌≡◌, ◌↔◌, ◌⊎◌, ◌+◌, ◌-◌, ◌<◌, ◌≤◌, ◌++◌, [], length, take, drop, min, Some, position, IfOk, IfSome, OnOk, OnErr, IsTrue, IsErr, IsNone, IsSome, IsSomeAnd, Contains};
+ghost use Rattle.std.specs.Prelude.{◌≡◌, ◌↔◌, ◌⊎◌, ◌+◌, ◌-◌, ◌<◌, ◌≤◌, ◌++◌, [], length, take, drop, min, Some, position, IfOk, IfSome, OnOk, OnErr, IsTrue, IsFalse, IsErr, IsNone, IsSome, IsSomeAnd, Contains};
 ghost use Rattle.std.specs.Bool.{OnTrue, OnFalse};
 ghost use Rattle.std.specs.Option.{option_map, option_copied};
 ghost use Rattle.std.specs.Str.{bytes_eq};
@@ -186,7 +186,7 @@ impl Files for MemFiles {
         ensures writes { Counts self.old.write_faults self.new.write_faults result }
     {
         let fails = self.count_call();
-        if fails || !clear(&mut self.files, name.as_bytes()) {
+        if !clear_unless(&mut self.files, fails, name.as_bytes()) {
             self.write_faults = self.write_faults.saturating_add(1);
             return Err(Failed);
         }
@@ -217,13 +217,10 @@ impl Files for MemFiles {
         let Some(left) = room_left(&self.files, name) else {
             return Err(Failed);
         };
-        if fails || left < piece.len() {
-            let kept = self.keep.min(left).min(piece.len());
-            add(&mut self.files, name, &piece[..kept]);
+        if !add_unless(&mut self.files, fails, self.keep, left, name, piece) {
             self.write_faults = self.write_faults.saturating_add(1);
             return Err(Failed);
         }
-        add(&mut self.files, name, piece);
         Ok(())
     }
 }
@@ -292,6 +289,15 @@ fn clear(files: &mut [MemFile], name: &[u8]) -> bool
     true
 }
 
+// Makes a name hold no bytes, if it is an entry and the call doesn't fail.
+fn clear_unless(files: &mut [MemFile], fails: bool, name: &[u8]) -> bool
+    ensures refused { IsFalse result ↔ (IsTrue fails ⊎ IsNone (room_in files.old name.now)) }
+    ensures cleared { OnTrue result (Rewrites files.old files.new name.now []) }
+    ensures same { OnFalse result (files.new ≡ files.old) }
+{
+    !fails && clear(files, name)
+}
+
 // Adds a piece to a name that is there and has room for it.
 fn add(files: &mut [MemFile], name: &[u8], piece: &[u8])
     requires { IsSomeAnd (room_left_in files.old name.now) (λ left. length piece.now ≤ left) }
@@ -300,4 +306,38 @@ fn add(files: &mut [MemFile], name: &[u8], piece: &[u8])
     if let Some(place) = place_of(files, name) {
         files[place].add(piece);
     }
+}
+
+// Adds the first `keep` bytes of a piece, or fewer where the piece or the room ends, to a name that has so much room left.
+fn add_kept(files: &mut [MemFile], keep: usize, left: usize, name: &[u8], piece: &[u8])
+    requires { room_left_in files.old name.now ≡ Some left }
+    ensures { IfSome (held_in files.old name.now) (λ bytes.
+        Rewrites files.old files.new name.now (bytes ++ take (min keep left) piece.now)) }
+{
+    let kept = keep.min(left).min(piece.len());
+    add(files, name, &piece[..kept]);
+}
+
+// Adds a piece to a name that has so much room left, if it fits and the call doesn't fail, and else what is kept of it.
+fn add_unless(
+    files: &mut [MemFile],
+    fails: bool,
+    keep: usize,
+    left: usize,
+    name: &[u8],
+    piece: &[u8],
+) -> bool
+    requires { room_left_in files.old name.now ≡ Some left }
+    ensures refused { IsFalse result ↔ (IsTrue fails ⊎ (left < length piece.now)) }
+    ensures whole { OnTrue result (IfSome (held_in files.old name.now) (λ bytes.
+        Rewrites files.old files.new name.now (bytes ++ piece.now))) }
+    ensures part { OnFalse result (IfSome (held_in files.old name.now) (λ bytes.
+        Rewrites files.old files.new name.now (bytes ++ take (min keep left) piece.now))) }
+{
+    if fails || left < piece.len() {
+        add_kept(files, keep, left, name, piece);
+        return false;
+    }
+    add(files, name, piece);
+    true
 }

@@ -1,5 +1,5 @@
 // A sink in memory, for tests.
-ghost use Rattle.std.specs.Prelude.{◌≡◌, ◌↔◌, ◌++◌, [], IfOk, OnOk, OnErr, IsErr};
+ghost use Rattle.std.specs.Prelude.{◌≡◌, ◌↔◌, ◌++◌, [], IfOk, OnOk, OnErr, IsErr, IsTrue, Contains};
 ghost use Rattle.base_outside.specs.Counts.{Counts};
 ghost use Rattle.base_outside.specs.Memory.{next, Refuses};
 
@@ -68,6 +68,16 @@ impl MemSink {
     {
         self.faults
     }
+
+    // Counts a call, and says whether it is one of those that fail.
+    fn count_call(&mut self) -> bool
+        ensures failing { IsTrue result ↔ Contains self.old.fails self.old.calls }
+        ensures counted { self.new ≡ record self.old { calls = next self.old.calls } }
+    {
+        let fails = self.fails.contains(&self.calls);
+        self.calls = self.calls.saturating_add(1);
+        fails
+    }
 }
 
 impl Sink for MemSink {
@@ -96,8 +106,7 @@ impl Sink for MemSink {
         }) }
         ensures counts { Counts self.old.faults self.new.faults result }
     {
-        let fails = self.fails.contains(&self.calls);
-        self.calls = self.calls.saturating_add(1);
+        let fails = self.count_call();
         if piece.is_empty() {
             return Ok(());
         }

@@ -5,6 +5,7 @@ use Rattle.base_outside.specs.declared.sink.Sink as sinks
 use Rattle.base_outside.specs.Counts.{Rose}
 use Rattle.base_outside.specs.Contents.{AddsPrefix}
 use Rattle.base_words.specs.Runs.{run, events}
+use Rattle.machine_devices.specs.declared.image.Image.{Image}
 use Rattle.machine_devices.specs.declared.image.Window.{Window}
 use Rattle.base_events.specs.declared.event.Event.{Event}
 use Rattle.machine_devices.specs.Rules.{ObeysRules}
@@ -16,12 +17,21 @@ use Rattle.machine_emulator.specs.Machine.{MachineState, Accepts, AcceptsAll, Is
 use Rattle.machine_model.specs.Confinement.{EventsAreListed}
 use Rattle.machine_lines.specs.Lines.{event_line}
 use Rattle.machine_output.specs.Runs.{event_lines, end_of, HasLine}
-use Rattle.base_outside.specs.Sinks.{Puts, sink}
+use Rattle.machine_output.specs.Printed.{IsWhole, IsPart}
+use Rattle.base_outside.specs.Sinks.{SinkState, Puts, sink}
 use Rattle.base_laws.specs.Lists.{Each}
 use Rattle.base_words.proofs.EventLines.{each_event, lines_cut}
 use Rattle.base_outside.proofs.Prefixes.{prefix_part}
 use Rattle.machine_output.proofs.Windows.{event_known, name_is_short}
 use Rattle.machine_output.proofs.Ended.{ends_so, same_lines}
+
+-- what was printed is the same of an equal image and an equal number of steps
+pub moved : (i j : Image) (n k : ℕ) (s : State) (old new : SinkState) (e : End) → i ≡ j → n ≡ k
+    → (e ≢ Refused → IsWhole i n s old new e) × (e ≡ Refused → IsPart i n s old new) → (e ≢ Refused → IsWhole j k s old new e) × (e ≡ Refused → IsPart j k s old new)
+moved i j n k s old new e images numbers h = (
+  λ other. subst (λ (m : ℕ). IsWhole j m s old new e) numbers (subst (λ (x : Image). IsWhole x n s old new e) images (h.0 other)),
+  λ refused. subst (λ (m : ℕ). IsPart j m s old new) numbers (subst (λ (x : Image). IsPart x n s old new) images (h.1 refused)),
+)
 
 -- a callback's state: it holds a sink, under a name, and windows
 module _ {G O : Type 0} (of : sinks.Ghosts O) (out : G → O) (name : G → ℕ) (windows : G → List Window) where
@@ -122,12 +132,24 @@ module _ {G O : Type 0} (of : sinks.Ghosts O) (out : G → O) (name : G → ℕ)
                 cut.1,
           )
 
-      -- all lines were printed, and the answer is how the run ends
-      pub printed_all : e ≢ Refused → (e ≡ end_of old.image n old.state) × Printed f (event_lines old.image n old.state) g
-      printed_all other = all_by e other r.says
+      name_kept : (d : End) → IsEndOf calls old.image n r.steps old.state new.state f g d → name g ≡ name f
+      name_kept (Halt c) h = (ended (Halt c) h.0 h.1).1.same_sink
+      name_kept InputEnd h = (ended InputEnd h.0 h.1).1.same_sink
+      name_kept Limit h = (ran_out h.0 h.1 h.2).1.same_sink
+      name_kept (Stop q a) h = (ended (Stop q a) h.0 h.1).1.same_sink
+      name_kept Refused h = (part_by h).0
 
-      -- a fault of the sink rose, and a part of the lines was printed
-      pub printed_part : e ≡ Refused
-          → (name g ≡ name f) × Rose (of.faults (out f)) (of.faults (out g))
-          × (IsTrue of.told → AddsPrefix (of.written (out f)) (of.written (out g)) (event_lines old.image n old.state))
-      printed_part refused = part_by (subst (λ d. IsEndOf calls old.image n r.steps old.state new.state f g d) refused r.says)
+      whole : e ≢ Refused → IsWhole old.image n old.state (sink of (out f)) (sink of (out g)) e
+      whole other = let p = all_by e other r.says in record { end = p.0; faultless = p.1.faultless; lines = p.1.added }
+
+      part : e ≡ Refused → IsPart old.image n old.state (sink of (out f)) (sink of (out g))
+      part refused =
+          let p = part_by (subst (λ d. IsEndOf calls old.image n r.steps old.state new.state f g d) refused r.says) in
+          record { cause = p.1; part = p.2 }
+
+      -- the callback holds the same sink; all lines were printed, and the answer is how the run ends, or a fault of the sink rose, and a part of
+      -- the lines was printed
+      pub printed : (name g ≡ name f)
+          × (e ≢ Refused → IsWhole old.image n old.state (sink of (out f)) (sink of (out g)) e)
+          × (e ≡ Refused → IsPart old.image n old.state (sink of (out f)) (sink of (out g)))
+      printed = (name_kept e r.says, whole, part)

@@ -3,13 +3,15 @@
 
 pub mod watching;
 
-ghost use Rattle.std.specs.Prelude.{◌≡◌, ◌++◌, IsTrue, IfOk, OnErr, OnOk, None};
+ghost use Rattle.std.specs.Prelude.{◌≡◌, ◌≢◌, ◌++◌, IsTrue, IfOk, OnErr, OnOk, None};
 ghost use Rattle.base_outside.specs.Counts.{Rose};
 ghost use Rattle.base_outside.specs.Contents.{AddsPrefix};
 ghost use Rattle.machine_devices.specs.Rules.{ObeysRules};
 ghost use Rattle.machine_lines.specs.Lines as lines;
 ghost use Rattle.base_outside.specs.Sinks.{Puts, sink};
+ghost use Rattle.machine_model.specs.declared.state.End.TheVariants.{Refused};
 ghost use Rattle.machine_output.specs.Runs.{end_of, event_lines, run_lines, HasLine};
+ghost use Rattle.machine_output.specs.Printed.{IsWhole, IsPart};
 
 use base_events::event::Event;
 use base_outside::{Failed, Sink};
@@ -66,6 +68,21 @@ fn put_event<O: Sink>(out: &mut O, windows: &[Window], event: &Event) -> bool
     has_line(windows, event) && out.put(event_line(windows, event).as_slice()).is_ok()
 }
 
+/// Runs it, prints the line of each event, and answers the end. It is a refusal where a put failed.
+fn run_printed<O: Sink>(machine: &mut Machine, image: &Image, steps: u32, out: &mut O) -> End
+    requires rules { ObeysRules image.now }
+    requires image { machine.old.image ≡ image.now }
+    requires begins { machine.old.state.ending ≡ None }
+    ensures whole { result ≢ Refused → IsWhole image.now steps machine.old.state (sink O.Sink out.old) (sink O.Sink out.new) result }
+    ensures part { result ≡ Refused → IsPart image.now steps machine.old.state (sink O.Sink out.old) (sink O.Sink out.new) }
+{
+    ended_machines();
+    listed_accesses();
+    let windows = image.windows.as_slice();
+    let mut put = |event: &Event| put_event(out, windows, event);
+    machine.run(u64::from(steps), &mut put)
+}
+
 /// Runs it, prints the line of each event, and answers the end.
 fn print_events<O: Sink>(
     machine: &mut Machine,
@@ -84,11 +101,7 @@ fn print_events<O: Sink>(
     ensures part { IsTrue O.told → OnErr result
         (AddsPrefix (O.written out.old) (O.written out.new) (event_lines image.now steps machine.old.state)) }
 {
-    ended_machines();
-    listed_accesses();
-    let windows = image.windows.as_slice();
-    let mut put = |event: &Event| put_event(out, windows, event);
-    match machine.run(u64::from(steps), &mut put) {
+    match run_printed(machine, image, steps, out) {
         End::Refused => Err(Failed),
         end => Ok(end),
     }

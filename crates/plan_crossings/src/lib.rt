@@ -3,7 +3,7 @@
 
 mod filled;
 
-ghost use Rattle.std.specs.Prelude.{◌≡◌, ◌<◌, length, IfOk, IfSome};
+ghost use Rattle.std.specs.Prelude.{◌≡◌, ◌<◌, ◌++◌, ◌∷◌, [], length, IfOk, IfSome, OnOk};
 ghost use Rattle.std.specs.List.{All};
 ghost use Rattle.plan_model.specs.Groups as groups_of;
 ghost use Rattle.plan_model.specs.Crossing as crossing;
@@ -70,6 +70,35 @@ pub fn target_count(sites: &[&SiteNeed]) -> Option<usize>
     Some(count)
 }
 
+/// The call of a site, by the site's number.
+fn call_of(site: &SiteNeed, number: usize) -> Result<CallSite, AllocError>
+    ensures { IfOk result (λ call. call ≡ record { block = site.now.block; place = site.now.inst; number = number }) }
+{
+    let Ok(number) = u32::try_from(number) else {
+        return Err(AllocError);
+    };
+    Ok(CallSite {
+        block: site.block,
+        place: site.inst,
+        number,
+    })
+}
+
+/// Adds the call of a site, by the site's number, if the site is in the function.
+fn add_call(
+    calls: &mut Vec<CallSite>,
+    site: &SiteNeed,
+    number: usize,
+    func: usize,
+) -> Result<(), AllocError>
+    ensures { OnOk result (calls.new.items ≡ calls.old.items ++ call_sites_among number (site.now ∷ []) func) }
+{
+    if site.func as usize == func {
+        calls.push(call_of(site, number)?)?;
+    }
+    Ok(())
+}
+
 /// The calls of a function among crossing sites, each with its number among these.
 ///
 /// # Errors
@@ -85,16 +114,7 @@ pub fn call_sites(
 {
     let mut calls = Vec::new(alloc);
     for (number, site) in sites.iter().enumerate() {
-        if site.func as usize == func {
-            let Ok(number) = u32::try_from(number) else {
-                return Err(AllocError);
-            };
-            calls.push(CallSite {
-                block: site.block,
-                place: site.inst,
-                number,
-            })?;
-        }
+        add_call(&mut calls, site, number, func)?;
     }
     Ok(calls)
 }

@@ -5,7 +5,8 @@ use Rattle.std.proofs.lemmas.List.{length-take-le, take_at}
 use Rattle.base_outside.specs.Calls.{Size}
 use Rattle.base_outside.specs.Reading.{Reads, AllPieces, no_size}
 use Rattle.base_outside.proofs.Paths.{calls_one, unread_behind}
-use Rattle.base_outside.proofs.Refusals.{failed_not_length, failed_not_memory, memory_not_failed, memory_not_length}
+use Rattle.base_outside.proofs.Refusals.{failed_not_length, failed_not_memory, memory_not_failed, memory_not_length, length_not_memory, length_not_failed, read_not_refused}
+use Rattle.base_outside.specs.declared.reading.ReadRefusal.TheVariants.{TooLong, Failed, NoMemory}
 use Rattle.base_outside.proofs.reading.read_whole.Goals as goal
 
 pub returns-in_err-size-clause-calls : goal.returns-in_err-size-clause-calls
@@ -28,8 +29,8 @@ returns-then-limit-size-clause-calls g c =
       All-cons (Reads c.args.name.now) _ [] refl (All-nil (Reads c.args.name.now)),
       tt,
       λ e. (size, refl, c.if-limit-size.true),
-      λ e. cc,
-      λ e. cc,
+      λ e. absurd (length_not_memory _ refl e),
+      λ e. absurd (length_not_failed _ refl e),
     )
 
 pub returns-in_err-bytes-clause-calls : goal.returns-in_err-bytes-clause-calls
@@ -81,7 +82,7 @@ returns-clause-calls g c =
         pieces = subst (AllPieces name size reads) (sym are) (subst (λ n. AllPieces name n reads (take filled read)) asked c.in_ok-filled.ensures.calls.3);
         few = subst (λ t. length t ≤ size) (sym are) few;
       },
-      λ e. cc,
-      λ e. cc,
-      λ e. cc,
+      λ e. absurd (read_not_refused c.truncate.new.self TooLong e),
+      λ e. absurd (read_not_refused c.truncate.new.self NoMemory e),
+      λ e. absurd (read_not_refused c.truncate.new.self Failed e),
     )
