@@ -25,7 +25,7 @@ use ir_model::token::{Keyword, Mark, TextLimit};
 use std::alloc::Global;
 
 /// An instruction or the end of a block.
-#[derive(Drop, PartialEq, Eq)]
+#[derive(Drop)]
 pub enum Step {
     /// An instruction.
     Inst(Inst),
