@@ -1,8 +1,9 @@
 -- A spelling is the spelling of one firmware.
-use Rattle.std.proofs.Common.{◌≡◌, ℕ, [], ◌∷◌, ◌++◌, List, Bool, true, false, refl, sym, ap, ◌∙◌, subst, append_assoc, append-nil, Some, None, flat_map}
+use Rattle.std.proofs.Common.{◌≡◌, ℕ, [], ◌∷◌, ◌++◌, List, Bool, true, false, refl, sym, ap, ◌∙◌, subst, append_assoc, append-nil, Option, Some, None, flat_map}
 use Rattle.ir_model.specs.declared.firmware.Block.{Block}
 use Rattle.ir_model.specs.declared.firmware.Cell.{Cell}
 use Rattle.ir_model.specs.declared.firmware.Cell.TheVariants as cell
+use Rattle.ir_model.specs.declared.firmware.Inst.{Inst}
 use Rattle.ir_model.specs.declared.firmware.Inst.TheVariants as inst
 use Rattle.ir_model.specs.declared.firmware.Term.{Term}
 use Rattle.ir_model.specs.declared.firmware.Term.TheVariants as term
@@ -119,7 +120,7 @@ mutual
       let k = row_unique a b (spell_gives as_found r ++ x) (spell_gives as_found s ++ y) (sym (append_assoc (spell_row as_found a) (spell_gives as_found r) x) ∙ (g ∙ append_assoc (spell_row as_found b) (spell_gives as_found s) y)) in
       let o = gives_unique r s x y h i k.1 in
       (cc (k.0, o.0), o.1)
-  type_unique _ _ x y h i e = cc
+  type_unique _ _ x y _ _ e = cc
 
   row_unique : (a b : PlainTypes) (x y : Spelling) → spell_row as_found a ++ x ≡ spell_row as_found b ++ y → One a b x y
   row_unique none none x y e = (refl, cc)
@@ -203,7 +204,7 @@ cell_unique : Unique Any (spell_cell as_found)
 cell_unique (cell.Word n) (cell.Word m) x y h i e = (cc, cc)
 cell_unique (cell.Function f) (cell.Function g) x y h i e = (cc, cc)
 cell_unique (cell.Address f) (cell.Address g) x y h i e = (cc, cc)
-cell_unique _ _ x y h i e = cc
+cell_unique _ _ x y _ _ e = cc
 
 abbrev is_cell_start : Found → Bool
 is_cell_start (Is (model.Number n)) = true
@@ -289,60 +290,106 @@ args_unique as_ bs x y e =
     separated_unique is_name_found Any (spell_word as_found) (Sign mark.Close) word_unique (λ a x. refl) (λ z. tt) (λ z. tt) (λ h. cc) refl as_ bs x y
     (sym (append_assoc (separated as_found (spell_word as_found) as_) (Sign mark.Close ∷ []) x) ∙ (e ∙ append_assoc (separated as_found (spell_word as_found) bs) (Sign mark.Close ∷ []) y))
 
+-- what stands behind the first, behind the first two, three, and so on
+abbrev behind_1 : Spelling → Spelling
+behind_1 [] = []
+behind_1 (f ∷ x) = x
+
+abbrev behind_2 : Spelling → Spelling
+behind_2 x = behind_1 (behind_1 x)
+
+abbrev behind_3 : Spelling → Spelling
+behind_3 x = behind_1 (behind_2 x)
+
+-- the name that is the first
+abbrev first_word : Spelling → List ℕ
+first_word (Is (model.Name w) ∷ x) = w
+first_word _ = []
+
+-- the instruction that gives a register what is spelled so, where no call does, and what stands behind it
+abbrev value_back : List ℕ → Spelling → Inst × Spelling
+value_back to (Is (model.Number v) ∷ x) = (inst.Const to v, x)
+value_back to (Is (model.Name a) ∷ x) = (inst.Move to a, x)
+value_back to (Is (model.Operation op) ∷ x) = (inst.Bin op to (first_word x) (first_word (behind_2 x)), behind_3 x)
+value_back to (Is (model.Comparison op) ∷ x) = (inst.Cmp op to (first_word x) (first_word (behind_2 x)), behind_3 x)
+value_back to (Is (model.Key key.Addr) ∷ x) = (inst.Addr to (first_word x), behind_1 x)
+value_back to (Is (model.Key key.Faddr) ∷ x) = (inst.FAddr to (first_word x), behind_1 x)
+value_back to (Is (model.Key key.Elem) ∷ x) = (inst.Elem to (first_word x) (first_word (behind_2 x)), behind_3 x)
+value_back to (Is (model.Key key.Field) ∷ x) = (inst.Field to (first_word x) (first_word (behind_2 x)), behind_3 x)
+value_back to x = (inst.Load to (first_word (behind_1 x)), behind_2 x)
+
+-- the instruction that is spelled so, where it is no call, and what stands behind it
+abbrev inst_back : Spelling → Inst × Spelling
+inst_back (Is (model.Name to) ∷ x) = value_back to (behind_1 x)
+inst_back x = (inst.Store (first_word (behind_1 x)) (first_word (behind_3 x)), behind_2 (behind_2 x))
+
+-- the register, the function and what stands behind the bracket, where a call is spelled so
+abbrev call_back : Spelling → Option (List ℕ) × List ℕ × Spelling
+call_back (Is (model.Name to) ∷ x) = (Some to, first_word (behind_2 x), behind_2 (behind_2 x))
+call_back x = (None, first_word (behind_1 x), behind_3 x)
+
+-- 1 for a call, 2 for one by an address
+abbrev word_kind : Spelling → ℕ
+word_kind (Is (model.Key key.Call) ∷ x) = 1
+word_kind (Is (model.Key key.Icall) ∷ x) = 2
+word_kind _ = 0
+
+abbrev call_kind : Spelling → ℕ
+call_kind (Is (model.Name to) ∷ x) = word_kind (behind_1 x)
+call_kind x = word_kind x
+
+-- how an instruction is read back
+data Form (a : Inst) : Type 0 where
+  plain : ((x : Spelling) → call_kind (spell_inst as_found a ++ x) ≡ 0) → ((x : Spelling) → inst_back (spell_inst as_found a ++ x) ≡ (a, x)) → Form a
+  call : (to : Option (List ℕ)) (f : List ℕ) (as_ : List (List ℕ)) → a ≡ inst.Call to f as_ → ((x : Spelling) → call_kind (spell_inst as_found a ++ x) ≡ 1)
+      → ((x : Spelling) → call_back (spell_inst as_found a ++ x) ≡ (to, f, spell_args as_found as_ ++ x)) → Form a
+  by_address : (to : Option (List ℕ)) (f : List ℕ) (as_ : List (List ℕ)) → a ≡ inst.ICall to f as_ → ((x : Spelling) → call_kind (spell_inst as_found a ++ x) ≡ 2)
+      → ((x : Spelling) → call_back (spell_inst as_found a ++ x) ≡ (to, f, spell_args as_found as_ ++ x)) → Form a
+
+form : (a : Inst) → Form a
+form (inst.Call None f as_) = call None f as_ refl (λ x. refl) (λ x. refl)
+form (inst.Call (Some to) f as_) = call (Some to) f as_ refl (λ x. refl) (λ x. refl)
+form (inst.ICall None f as_) = by_address None f as_ refl (λ x. refl) (λ x. refl)
+form (inst.ICall (Some to) f as_) = by_address (Some to) f as_ refl (λ x. refl) (λ x. refl)
+form (inst.Const to v) = plain (λ x. refl) (λ x. refl)
+form (inst.Move to b) = plain (λ x. refl) (λ x. refl)
+form (inst.Bin op to b c) = plain (λ x. refl) (λ x. refl)
+form (inst.Cmp op to b c) = plain (λ x. refl) (λ x. refl)
+form (inst.Addr to b) = plain (λ x. refl) (λ x. refl)
+form (inst.FAddr to b) = plain (λ x. refl) (λ x. refl)
+form (inst.Elem to b c) = plain (λ x. refl) (λ x. refl)
+form (inst.Field to b c) = plain (λ x. refl) (λ x. refl)
+form (inst.Load to b) = plain (λ x. refl) (λ x. refl)
+form (inst.Store to b) = plain (λ x. refl) (λ x. refl)
+
+-- the parts of two calls that are read back
+same_parts : (to ot : Option (List ℕ)) (f g : List ℕ) (as_ bs : List (List ℕ)) (x y : Spelling) → ◌≡◌ {A = Option (List ℕ) × List ℕ × Spelling} (to, f, spell_args as_found as_ ++ x) (ot, g, spell_args as_found bs ++ y)
+    → (to ≡ ot) × (f ≡ g) × One as_ bs x y
+same_parts to ot f g as_ bs x y e =
+    let r : (spell_args as_found) as_ ++ x ≡ spell_args as_found bs ++ y = ap (λ (z : Option (List ℕ) × List ℕ × Spelling). z.2) e in
+    (ap (λ (z : Option (List ℕ) × List ℕ × Spelling). z.0) e, ap (λ (z : Option (List ℕ) × List ℕ × Spelling). z.1) e, args_unique as_ bs x y r)
+
+by_form : (a b : Inst) (x y : Spelling) → spell_inst as_found a ++ x ≡ spell_inst as_found b ++ y → Form a → Form b → One a b x y
+by_form a b x y e (plain k c) (plain l d) =
+    let o : ◌≡◌ {A = Inst × Spelling} (a, x) (b, y) = sym (c x) ∙ (ap inst_back e ∙ d y) in
+    (ap (λ (z : Inst × Spelling). z.0) o, ap (λ (z : Inst × Spelling). z.1) o)
+by_form a b x y e (call to f as_ i k c) (call ot g bs j l d) =
+    let o = same_parts to ot f g as_ bs x y (sym (c x) ∙ (ap call_back e ∙ d y)) in
+    let m : ◌≡◌ {A = Inst} (inst.Call to f as_) (inst.Call ot g bs) = rw (o.0, o.1, o.2.0) refl in
+    (i ∙ (m ∙ sym j), o.2.1)
+by_form a b x y e (by_address to f as_ i k c) (by_address ot g bs j l d) =
+    let o = same_parts to ot f g as_ bs x y (sym (c x) ∙ (ap call_back e ∙ d y)) in
+    let m : ◌≡◌ {A = Inst} (inst.ICall to f as_) (inst.ICall ot g bs) = rw (o.0, o.1, o.2.0) refl in
+    (i ∙ (m ∙ sym j), o.2.1)
+by_form a b x y e (plain k c) (call ot g bs j l d) = let n : 0 ≡ 1 = sym (k x) ∙ (ap call_kind e ∙ l y) in cc n
+by_form a b x y e (plain k c) (by_address ot g bs j l d) = let n : 0 ≡ 2 = sym (k x) ∙ (ap call_kind e ∙ l y) in cc n
+by_form a b x y e (call to f as_ i k c) (plain l d) = let n : 1 ≡ 0 = sym (k x) ∙ (ap call_kind e ∙ l y) in cc n
+by_form a b x y e (call to f as_ i k c) (by_address ot g bs j l d) = let n : 1 ≡ 2 = sym (k x) ∙ (ap call_kind e ∙ l y) in cc n
+by_form a b x y e (by_address to f as_ i k c) (plain l d) = let n : 2 ≡ 0 = sym (k x) ∙ (ap call_kind e ∙ l y) in cc n
+by_form a b x y e (by_address to f as_ i k c) (call ot g bs j l d) = let n : 2 ≡ 1 = sym (k x) ∙ (ap call_kind e ∙ l y) in cc n
+
 inst_unique : Unique Any (spell_inst as_found)
-inst_unique (inst.Const to v) (inst.Const ot w) x y h i e = (cc, cc)
-inst_unique (inst.Move to a) (inst.Move ot c) x y h i e = (cc, cc)
-inst_unique (inst.Bin op to a b) (inst.Bin po ot c d) x y h i e = (cc, cc)
-inst_unique (inst.Cmp op to a b) (inst.Cmp po ot c d) x y h i e = (cc, cc)
-inst_unique (inst.Addr to a) (inst.Addr ot c) x y h i e = (cc, cc)
-inst_unique (inst.FAddr to a) (inst.FAddr ot c) x y h i e = (cc, cc)
-inst_unique (inst.Elem to a b) (inst.Elem ot c d) x y h i e = (cc, cc)
-inst_unique (inst.Field to a b) (inst.Field ot c d) x y h i e = (cc, cc)
-inst_unique (inst.Load to a) (inst.Load ot c) x y h i e = (cc, cc)
-inst_unique (inst.Store to a) (inst.Store ot c) x y h i e = (cc, cc)
-inst_unique (inst.Call None f as_) (inst.Call None g bs) x y h i e =
-    let r : (spell_args as_found) as_ ++ x ≡ spell_args as_found bs ++ y = cc in
-    let n : f ≡ g = cc in
-    let o = args_unique as_ bs x y r in
-    (cc (n, o.0), o.1)
-inst_unique (inst.Call (Some to) f as_) (inst.Call (Some ot) g bs) x y h i e =
-    let r : (spell_args as_found) as_ ++ x ≡ spell_args as_found bs ++ y = cc in
-    let n : f ≡ g = cc in
-    let k : to ≡ ot = cc in
-    let o = args_unique as_ bs x y r in
-    (cc (n, k, o.0), o.1)
-inst_unique (inst.ICall None f as_) (inst.ICall None g bs) x y h i e =
-    let r : (spell_args as_found) as_ ++ x ≡ spell_args as_found bs ++ y = cc in
-    let n : f ≡ g = cc in
-    let o = args_unique as_ bs x y r in
-    (cc (n, o.0), o.1)
-inst_unique (inst.ICall (Some to) f as_) (inst.ICall (Some ot) g bs) x y h i e =
-    let r : (spell_args as_found) as_ ++ x ≡ spell_args as_found bs ++ y = cc in
-    let n : f ≡ g = cc in
-    let k : to ≡ ot = cc in
-    let o = args_unique as_ bs x y r in
-    (cc (n, k, o.0), o.1)
-inst_unique (inst.Call None f as_) (inst.Call (Some ot) g bs) x y h i e = cc
-inst_unique (inst.Call None f as_) (inst.ICall None g bs) x y h i e = cc
-inst_unique (inst.Call None f as_) (inst.ICall (Some ot) g bs) x y h i e = cc
-inst_unique (inst.Call (Some to) f as_) (inst.Call None g bs) x y h i e = cc
-inst_unique (inst.Call (Some to) f as_) (inst.ICall None g bs) x y h i e = cc
-inst_unique (inst.Call (Some to) f as_) (inst.ICall (Some ot) g bs) x y h i e = cc
-inst_unique (inst.ICall None f as_) (inst.Call None g bs) x y h i e = cc
-inst_unique (inst.ICall None f as_) (inst.Call (Some ot) g bs) x y h i e = cc
-inst_unique (inst.ICall None f as_) (inst.ICall (Some ot) g bs) x y h i e = cc
-inst_unique (inst.ICall (Some to) f as_) (inst.Call None g bs) x y h i e = cc
-inst_unique (inst.ICall (Some to) f as_) (inst.Call (Some ot) g bs) x y h i e = cc
-inst_unique (inst.ICall (Some to) f as_) (inst.ICall None g bs) x y h i e = cc
-inst_unique (inst.Call None f as_) _ x y h i e = cc
-inst_unique (inst.Call (Some to) f as_) _ x y h i e = cc
-inst_unique (inst.ICall None f as_) _ x y h i e = cc
-inst_unique (inst.ICall (Some to) f as_) _ x y h i e = cc
-inst_unique _ (inst.Call None f as_) x y h i e = cc
-inst_unique _ (inst.Call (Some to) f as_) x y h i e = cc
-inst_unique _ (inst.ICall None f as_) x y h i e = cc
-inst_unique _ (inst.ICall (Some to) f as_) x y h i e = cc
-inst_unique _ _ x y h i e = cc
+inst_unique a b x y h i e = by_form a b x y e (form a) (form b)
 
 abbrev is_inst_start : Found → Bool
 is_inst_start (Is (model.Name w)) = true
@@ -381,7 +428,7 @@ term_unique (term.Ret None) (term.Ret None) x y h i e = (refl, cc)
 term_unique (term.Ret None) (term.Ret (Some r)) x y h i e = let g : x ≡ Name r ∷ y = cc in absurd (no_register r x y h i g)
 term_unique (term.Ret (Some r)) (term.Ret None) x y h i e = let g : y ≡ Name r ∷ x = cc in absurd (no_register r y x i h g)
 term_unique (term.Ret (Some r)) (term.Ret (Some s)) x y h i e = (cc, cc)
-term_unique _ _ x y h i e = cc
+term_unique _ _ x y _ _ e = cc
 
 term_no_inst : (t : Term) (x : Spelling) → first_is is_inst_start (spell_term as_found t ++ x) ≡ false
 term_no_inst (term.Jump a) x = refl

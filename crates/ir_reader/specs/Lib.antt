@@ -4,6 +4,7 @@ pub mod Scan
 pub mod Machine
 pub mod Spelling
 pub mod Reading
+pub mod Fronts
 pub mod Lines
 pub mod Parts
 pub mod Refusals

@@ -1,10 +1,14 @@
 //! Types at the front of a text.
 
-ghost use Rattle.std.specs.Prelude.{◌≡◌, [], ◌∷◌, map, OnOk, None};
+ghost use Rattle.std.specs.Prelude.{◌≡◌, [], ◌∷◌, map, OnOk, None, true, false};
 ghost use Rattle.ir_model.specs.Types.{type_of, types_from, boxed_result_of};
 ghost use Rattle.ir_model.specs.Types as types;
+ghost use Rattle.ir_model.specs.declared.token.Keyword.TheVariants as key;
+ghost use Rattle.ir_model.specs.declared.token.Mark.TheVariants as sign;
+ghost use Rattle.base_names.specs.Names.{is_word, is_reserved};
 ghost use Rattle.ir_reader.specs.Machine as Expected;
 ghost use Rattle.ir_reader.specs.Reading.{Reads};
+ghost use Rattle.ir_reader.specs.Fronts.{front};
 ghost use Rattle.ir_reader.specs.Scan.{placed};
 ghost use Rattle.ir_grammar.specs.Spelling as grammar;
 ghost use Rattle.ir_reader.specs.Spelling as spelling;
@@ -42,9 +46,29 @@ fn type_excess(first: Option<Excess>, around: u32) -> Option<Excess>
     or_else(first, depth_excess(around, None))
 }
 
+/// A type by a name, which was read, and the text behind it.
+#[tactic(auto, using(ir_model::proofs::NoExcess::first_none, crate::proofs::Kept::name_of_type))]
+fn named<'a>(
+    alloc: Global,
+    first: Option<Excess>,
+    around: u32,
+    word: &[u8],
+    left: usize,
+    text: &'a [u8],
+) -> Result<(Ty, &'a [u8]), ReadError>
+    requires word { is_word word.now ≡ true }
+    requires free { is_reserved word.now ≡ false }
+    ensures first { OnOk result (first ≡ None) }
+    ensures read { Reads (λ x. type_of x.0) (grammar.spell_type as_found) (Expected.Ty first around ∷ []) [] (front (spelling.Name word.now) left (placed text.now)) (λ x. placed x.1.now) result }
+{
+    let excess = or_else(first, depth_excess(around, word_excess(word)));
+    keep(excess, left)?;
+    Ok((Ty::Named(Name::of(alloc, word)?), text))
+}
+
 /// A type in so many others, whose first token may pass something else first, and the text behind it.
 #[cycle(types)]
-#[tactic(auto, using(ir_model::proofs::NoExcess::first_none, crate::proofs::Kept::type_depth, crate::proofs::Kept::name_of_type))]
+#[tactic(auto, using(ir_model::proofs::NoExcess::first_none))]
 pub fn ty(
     alloc: Global,
     first: Option<Excess>,
@@ -68,34 +92,70 @@ pub fn ty(
             keep(type_excess(first, around), left)?;
             Ok((Ty::U32, rest))
         }
-        Token::Mark(Mark::Star) => {
-            keep(type_excess(first, around), left)?;
-            let (target, rest) = ty(alloc, None, around + 1, rest)?;
-            Ok((Ty::Ptr(Box::new(alloc, target)?), rest))
-        }
-        Token::Mark(Mark::OpenSquare) => {
-            keep(type_excess(first, around), left)?;
-            let (count, rest) = length(rest)?;
-            let rest = mark(Mark::CloseSquare, rest)?;
-            let (element, rest) = ty(alloc, None, around + 1, rest)?;
-            Ok((Ty::Array(count, Box::new(alloc, element)?), rest))
-        }
-        Token::Key(Keyword::Fn) => {
-            keep(type_excess(first, around), left)?;
-            let rest = mark(Mark::Open, rest)?;
-            let (params, rest) = row(alloc, around + 1, rest)?;
-            let (result, rest) = boxed_result(alloc, around + 1, rest)?;
-            Ok((callee(params, result), rest))
-        }
-        Token::Name(word) => {
-            keep(
-                or_else(first, depth_excess(around, word_excess(word))),
-                left,
-            )?;
-            Ok((Ty::Named(Name::of(alloc, word)?), rest))
-        }
+        Token::Mark(Mark::Star) => pointer(alloc, first, around, left, rest),
+        Token::Mark(Mark::OpenSquare) => array(alloc, first, around, left, rest),
+        Token::Key(Keyword::Fn) => function(alloc, first, around, left, rest),
+        Token::Name(word) => named(alloc, first, around, word, left, rest),
         _ => Err(syntax(left)),
     }
+}
+
+/// A pointer's type, whose star was read, and the text behind it.
+#[cycle(types)]
+#[tactic(auto, using(ir_model::proofs::NoExcess::first_none, crate::proofs::Kept::type_depth))]
+fn pointer(
+    alloc: Global,
+    first: Option<Excess>,
+    around: u32,
+    left: usize,
+    text: &[u8],
+) -> Result<(Ty, &[u8]), ReadError>
+    ensures first { OnOk result (first ≡ None) }
+    ensures read { Reads (λ x. type_of x.0) (grammar.spell_type as_found) (Expected.Ty first around ∷ []) [] (front (spelling.Sign sign.Star) left (placed text.now)) (λ x. placed x.1.now) result }
+{
+    keep(type_excess(first, around), left)?;
+    let (target, rest) = ty(alloc, None, around + 1, text)?;
+    Ok((Ty::Ptr(Box::new(alloc, target)?), rest))
+}
+
+/// An array's type, whose first bracket was read, and the text behind it.
+#[cycle(types)]
+#[tactic(auto, using(ir_model::proofs::NoExcess::first_none, crate::proofs::Kept::type_depth))]
+fn array(
+    alloc: Global,
+    first: Option<Excess>,
+    around: u32,
+    left: usize,
+    text: &[u8],
+) -> Result<(Ty, &[u8]), ReadError>
+    ensures first { OnOk result (first ≡ None) }
+    ensures read { Reads (λ x. type_of x.0) (grammar.spell_type as_found) (Expected.Ty first around ∷ []) [] (front (spelling.Sign sign.OpenSquare) left (placed text.now)) (λ x. placed x.1.now) result }
+{
+    keep(type_excess(first, around), left)?;
+    let (count, rest) = length(text)?;
+    let rest = mark(Mark::CloseSquare, rest)?;
+    let (element, rest) = ty(alloc, None, around + 1, rest)?;
+    Ok((Ty::Array(count, Box::new(alloc, element)?), rest))
+}
+
+/// A function's type, whose reserved word was read, and the text behind it.
+#[cycle(types)]
+#[tactic(auto, using(ir_model::proofs::NoExcess::first_none, crate::proofs::Kept::type_depth))]
+fn function(
+    alloc: Global,
+    first: Option<Excess>,
+    around: u32,
+    left: usize,
+    text: &[u8],
+) -> Result<(Ty, &[u8]), ReadError>
+    ensures first { OnOk result (first ≡ None) }
+    ensures read { Reads (λ x. type_of x.0) (grammar.spell_type as_found) (Expected.Ty first around ∷ []) [] (front (spelling.Key key.Fn) left (placed text.now)) (λ x. placed x.1.now) result }
+{
+    keep(type_excess(first, around), left)?;
+    let rest = mark(Mark::Open, text)?;
+    let (params, rest) = row(alloc, around + 1, rest)?;
+    let (result, rest) = boxed_result(alloc, around + 1, rest)?;
+    Ok((callee(params, result), rest))
 }
 
 /// The type behind an arrow, if there is one, and the text behind it.

@@ -1,5 +1,6 @@
 use Rattle.std.proofs.Common.{◌≡◌, ◌<◌, [], ◌∷◌, ◌++◌, map, length, arith, false, ◌∙◌}
 use Rattle.std.proofs.lemmas.Grind.{common_steps}
+use Rattle.ir_model.specs.declared.token.Keyword.TheVariants as key
 use Rattle.ir_model.specs.declared.token.Mark.TheVariants as mark
 use Rattle.ir_model.specs.Types.{type_of}
 use Rattle.ir_reader.specs.Found.{finds}
@@ -7,7 +8,8 @@ use Rattle.ir_reader.specs.Machine.{Gives}
 use Rattle.ir_reader.specs.Reading.{mark_first}
 use Rattle.ir_reader.specs.Scan.{placed}
 use Rattle.ir_grammar.specs.Spelling.{spell_type}
-use Rattle.ir_reader.specs.Spelling.{Sign, as_found}
+use Rattle.ir_reader.specs.Spelling.{Name, Key, Sign, as_found}
+use Rattle.ir_reader.specs.Fronts.{front}
 use Rattle.ir_grammar.proofs.Separated.{spell_types}
 use Rattle.ir_reader.proofs.Ends.{row_ends}
 use Rattle.ir_model.proofs.NoExcess.{counted_none}
@@ -34,3 +36,23 @@ row-returns t c =
       spelled = rw (spell_types as_found (map type_of c.loop-behind.types.items)) (read_closed _ _ _ _ (Sign mark.Close ∷ []) c.loop-behind.invariant.spelled c.in_ok-rest.ensures.spelled);
       passed = λ st. c.loop-behind.invariant.passed st ∙ (row_ends c.args.around (length c.loop-behind.types.items) st (placed c.loop-behind.rest.now) none ∙ c.in_ok-rest.ensures.passed (Gives c.args.around ∷ st));
     }
+
+pub ty-returns-in-Mark-Star-clause-read : goal.ty-returns-in-Mark-Star-clause-read
+ty-returns-in-Mark-Star-clause-read t c =
+    let e : placed c.args.text.now ≡ front (Sign mark.Star) c.lex-left.result.1 (placed c.lex-left.result.2.now) = grind (arith, common_steps) in
+    rw e c.pointer.ensures.read
+
+pub ty-returns-in-Mark-OpenSquare-clause-read : goal.ty-returns-in-Mark-OpenSquare-clause-read
+ty-returns-in-Mark-OpenSquare-clause-read t c =
+    let e : placed c.args.text.now ≡ front (Sign mark.OpenSquare) c.lex-left.result.1 (placed c.lex-left.result.2.now) = grind (arith, common_steps) in
+    rw e c.array.ensures.read
+
+pub ty-returns-in-Key-Fn-clause-read : goal.ty-returns-in-Key-Fn-clause-read
+ty-returns-in-Key-Fn-clause-read t c =
+    let e : placed c.args.text.now ≡ front (Key key.Fn) c.lex-left.result.1 (placed c.lex-left.result.2.now) = grind (arith, common_steps) in
+    rw e c.function.ensures.read
+
+pub ty-returns-in-Name-clause-read : goal.ty-returns-in-Name-clause-read
+ty-returns-in-Name-clause-read t c =
+    let e : placed c.args.text.now ≡ front (Name c.in-Name.word.now) c.lex-left.result.1 (placed c.lex-left.result.2.now) = grind (arith, common_steps) in
+    rw e c.named.ensures.read

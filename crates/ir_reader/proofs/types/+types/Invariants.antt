@@ -8,13 +8,22 @@ use Rattle.ir_reader.specs.Spelling.{as_found}
 use Rattle.ir_reader.proofs.types.+types.Given as goal
 
 abbrev pub decreases-boxed_result : goal.decreases-boxed_result
-decreases-boxed_result l = 2 * (10 - l.around) + 1
+decreases-boxed_result l = 3 * (10 - l.around) + 2
 
 abbrev pub decreases-ty : goal.decreases-ty
-decreases-ty l = 2 * (10 - l.around)
+decreases-ty l = 3 * (10 - l.around) + 1
+
+abbrev pub decreases-pointer : goal.decreases-pointer
+decreases-pointer l = 3 * (10 - l.around)
+
+abbrev pub decreases-array : goal.decreases-array
+decreases-array l = 3 * (10 - l.around)
+
+abbrev pub decreases-function : goal.decreases-function
+decreases-function l = 3 * (10 - l.around)
 
 abbrev pub decreases-row : goal.decreases-row
-decreases-row l = 2 * (10 - l.around) + 1
+decreases-row l = 3 * (10 - l.around) + 2
 
 abbrev pub invariant-row-loop-behind : goal.invariant-row-loop-behind
 invariant-row-loop-behind l = record {
