@@ -125,10 +125,19 @@ impl<'a> Layouts<'a> {
         ensures too_large { result ≡ Err LayoutFault.TooLarge → HasTooLarge [] (map struct_of structs.now) }
     {
         let mut layouts = Layouts::new(alloc);
-        for declaration in structs {
-            layouts.push(declaration)?;
-        }
+        layouts.push_all(structs)?;
         Ok(layouts)
+    }
+
+    fn push_all(&mut self, structs: &'a [StructDecl]) -> Result<(), LayoutFault>
+        requires { self.old ≡ [] }
+        ensures all { OnOk result (self.new ≡ structs.now) }
+        ensures too_large { result ≡ Err LayoutFault.TooLarge → HasTooLarge [] (map struct_of structs.now) }
+    {
+        for declaration in structs {
+            self.push(declaration)?;
+        }
+        Ok(())
     }
 
     /// The names of the structs.
