@@ -4,7 +4,7 @@ use Rattle.std.proofs.lemmas.List.{map-append, map_more, take-append-drop, take_
 use Rattle.ir_model.specs.declared.extent.TheConstants.{SIZE_LIMIT}
 use Rattle.ir_model.specs.declared.firmware.Binding.{Binding}
 use Rattle.ir_model.specs.Types.{PlainType, type_of}
-use Rattle.ir_model.specs.Plain.{PlainBinding, PlainStruct, binding_of, struct_of, names_of}
+use Rattle.ir_model.specs.Plain.{PlainBinding, PlainStruct, binding_of, struct_of}
 use Rattle.ir_model.specs.Layout.{Shape, Known, empty, shape, shifted, rounded_up, with_field, laid_out, field_places, known}
 use Rattle.ir_model.proofs.Counting.{rounded_at_least}
 use Rattle.ir_layouts.specs.declared.measure.Measure.{Measure}
