@@ -1,6 +1,6 @@
 //! Files and the names of functions.
 
-ghost use Rattle.std.specs.Prelude.{◌≡◌, ◌++◌, ◌∷◌, [], map, OnOk};
+ghost use Rattle.std.specs.Prelude.{◌≡◌, ◌++◌, ◌∷◌, [], map, IfOk, OnOk};
 ghost use Rattle.ir_model.specs.Plain.{PlainFunc, PlainGlobal, func_of, file_of, global_of};
 ghost use Rattle.ir_model.specs.Typing.{func_name_checks, file_checks};
 ghost use Rattle.ir_check_scopes.specs.Found.{Finds};
@@ -11,7 +11,7 @@ use ir_check_scopes::{CheckFault, CheckPlaceRef};
 use ir_firmware_names::{add_globals, periph_names};
 use ir_model::firmware::{FileDecl, Firmware, Func};
 use ir_names::Names;
-use std::alloc::Global;
+use std::alloc::{AllocError, Global};
 
 fn func_names<'a>(seen: &mut Names<'a>, funcs: &'a [Func]) -> Result<(), CheckFault>
     ensures finds { Finds (func_name_checks seen.old (map func_of funcs.now)) result }
@@ -38,15 +38,42 @@ fn file<'a>(
     Ok(())
 }
 
+fn each_file<'a>(
+    names: &mut Names<'a>,
+    seen: &mut Names<'a>,
+    files: &'a [FileDecl],
+) -> Result<(), CheckFault>
+    ensures { Finds (file_checks names.old seen.old (map file_of files.now)) result }
+{
+    for declaration in files {
+        file(names, seen, declaration)?;
+    }
+    Ok(())
+}
+
+fn new_files<'a>(
+    alloc: Global,
+    seen: &mut Names<'a>,
+    files: &'a [FileDecl],
+) -> Result<(), CheckFault>
+    ensures { Finds (file_checks [] seen.old (map file_of files.now)) result }
+{
+    let mut names = Names::new(alloc);
+    each_file(&mut names, seen, files)
+}
+
+fn taken_names(alloc: Global, firmware: &Firmware) -> Result<Names<'_>, AllocError>
+    ensures { IfOk result (λ n. n ≡ map (λ p. p.name) firmware.now.periphs ++ map (λ (g : PlainGlobal). g.name) (map global_of firmware.now.globals)) }
+{
+    let mut seen = periph_names(alloc, firmware.periphs.as_slice())?;
+    add_globals(&mut seen, firmware.globals.as_slice())?;
+    Ok(seen)
+}
+
 /// Whether the names of files and functions are new.
 pub fn files(alloc: Global, firmware: &Firmware) -> Result<(), CheckFault>
     ensures { Finds (file_checks [] (map (λ p. p.name) firmware.now.periphs ++ map (λ (g : PlainGlobal). g.name) (map global_of firmware.now.globals)) (map file_of firmware.now.files)) result }
 {
-    let mut names = Names::new(alloc);
-    let mut seen = periph_names(alloc, firmware.periphs.as_slice())?;
-    add_globals(&mut seen, firmware.globals.as_slice())?;
-    for declaration in firmware.files.as_slice() {
-        file(&mut names, &mut seen, declaration)?;
-    }
-    Ok(())
+    let mut seen = taken_names(alloc, firmware)?;
+    new_files(alloc, &mut seen, firmware.files.as_slice())
 }

@@ -4,7 +4,7 @@ use Rattle.std.proofs.lemmas.List.{map-append, map_more, take-append-drop, take_
 use Rattle.ir_model.specs.declared.extent.TheConstants.{SIZE_LIMIT}
 use Rattle.ir_model.specs.declared.firmware.Binding.{Binding}
 use Rattle.ir_model.specs.Types.{PlainType, type_of}
-use Rattle.ir_model.specs.Plain.{PlainBinding, PlainStruct, binding_of, struct_of, names_of}
+use Rattle.ir_model.specs.Plain.{PlainBinding, PlainStruct, binding_of, struct_of}
 use Rattle.ir_model.specs.Layout.{Shape, Known, empty, shape, shifted, rounded_up, with_field, laid_out, field_places, known}
 use Rattle.ir_model.proofs.Counting.{rounded_at_least}
 use Rattle.ir_layouts.specs.declared.measure.Measure.{Measure}
@@ -13,12 +13,8 @@ use Rattle.ir_layouts.specs.declared.table.StructLayout.{StructLayout}
 use Rattle.ir_layouts.specs.Measures.{capped, IsMeasure, IsTooLarge, struct_shape}
 use Rattle.ir_layouts.specs.Fields.{place_of}
 use Rattle.ir_layouts.specs.Tables.{IsLaid, first_cells}
+use Rattle.ir_layouts.specs.Laying.{after, IsOpen}
 use Rattle.ir_layouts.proofs.Sizes.{good, length_shifted, size_grows}
-
--- what is laid out behind these fields, before it is closed
-abbrev pub after : List Known → Shape → List PlainBinding → Shape
-after ks s [] = s
-after ks s (f ∷ fs) = after ks (with_field ks s f.ty) fs
 
 laid_after : (ks : List Known) (s : Shape) (fs : List PlainBinding) → laid_out ks s fs ≡ laid_out ks (after ks s fs) []
 laid_after ks s [] = refl
@@ -47,19 +43,6 @@ firsts_more : (ks : List Known) (s : Shape) (n : ℕ) (xs : List PlainBinding) (
 firsts_more ks s n [] x e = ap (λ m. m ∷ []) e
 firsts_more ks s n (y ∷ xs) x e =
     ap (λ ms. n ∷ ms) (firsts_more ks (with_field ks s y.ty) (n + length (shape ks y.ty).cells) xs x (ap (λ m. m + length (shape ks y.ty).cells) e ∙ sym (count_with ks s y.ty)))
-
--- what is laid out of a struct so far
-pub record IsOpen (ss : List PlainStruct) (fs : List PlainBinding) (bytes boundary count : ℕ) (spots : List Field) (words : List (List ℕ)) : Type 0 where
-  pub size : bytes ≡ (after (known ss) empty fs).size
-  pub align : boundary ≡ (after (known ss) empty fs).align
-  pub cells : count ≡ length (after (known ss) empty fs).cells
-  pub small : bytes ≤ SIZE_LIMIT
-  pub fewer : count ≤ bytes
-  pub positive : 0 < boundary
-  pub most : boundary ≤ 4
-  pub fields : map place_of spots ≡ field_places (known ss) empty fs
-  pub firsts : map (λ (f : Field). f.first_cell) spots ≡ first_cells (known ss) 0 fs
-  pub names : words ≡ names_of fs
 
 uncapped : (n m : ℕ) → m ≡ capped n → m ≤ SIZE_LIMIT → m ≡ n
 uncapped n m e l = omega (arith, e)

@@ -1,3 +1,4 @@
 pub mod Measures
 pub mod Fields
 pub mod Tables
+pub mod Laying

@@ -1,6 +1,6 @@
 //! The table of the structs of a firmware.
 
-ghost use Rattle.std.specs.Prelude.{◌≡◌, ◌+◌, ◌<◌, ◌≤◌, [], ◌∷◌, ◌++◌, map, length, IfOk, OnOk, OnErr, MatchOption, option_map, Some, None};
+ghost use Rattle.std.specs.Prelude.{◌≡◌, ◌+◌, ◌<◌, ◌≤◌, [], ◌∷◌, ◌++◌, ◌-◌, map, length, take, IfOk, OnOk, OnErr, MatchOption, option_map, Some, None};
 ghost use Rattle.ir_model.specs.Types.{type_of};
 ghost use Rattle.ir_model.specs.Plain.{struct_of};
 ghost use Rattle.ir_model.specs.Layout.{FieldPlace, known, shape, fields_named};
@@ -9,7 +9,7 @@ ghost use Rattle.ir_model.specs.Rules.{field_type};
 ghost use Rattle.ir_layouts.specs.Measures.{IsMeasure, IsTooLarge, struct_shape};
 ghost use Rattle.ir_model.specs.declared.extent.TheConstants.{SIZE_LIMIT};
 ghost use Rattle.ir_layouts.specs.Fields.{place_of, place_named};
-ghost use Rattle.ir_layouts.specs.Tables.{HasTooLarge, HasFields};
+ghost use Rattle.ir_layouts.specs.Tables.{HasTooLarge, HasFields, IsLaid};
 
 use crate::fault::LayoutFault;
 use crate::measure::Measure;
@@ -17,7 +17,7 @@ use base_names::Name;
 use ir_model::firmware::StructDecl;
 use ir_model::types::Ty;
 use ir_names::Names;
-use std::alloc::Global;
+use std::alloc::{AllocError, Global};
 use std::marker::Model;
 
 /// A field of a struct that is laid out.
@@ -84,6 +84,25 @@ fn field_in<'a>(layout: &StructLayout<'a>, field: &Name) -> Option<Field<'a>>
     }
 }
 
+fn put_name<'a>(
+    names: &mut Names<'a>,
+    structs: &mut Vec<StructLayout<'a>>,
+    name: &'a Name,
+) -> Result<(), AllocError>
+    ensures grows { OnOk result (names.new ≡ names.old ++ name.now ∷ []) }
+    ensures all { OnOk result (structs.new.items ≡ structs.old.items) }
+    ensures kept { OnErr result (names.new ≡ names.old) }
+    ensures rest { OnErr result (structs.new.items ≡ take (length structs.old.items - 1) structs.old.items) }
+{
+    match names.push(name) {
+        Ok(()) => Ok(()),
+        Err(error) => {
+            structs.pop();
+            Err(error)
+        }
+    }
+}
+
 impl<'a> Layouts<'a> {
     /// No structs.
     pub fn new(alloc: Global) -> Layouts<'a>
@@ -107,11 +126,18 @@ impl<'a> Layouts<'a> {
         ensures kept { OnErr result (self.new ≡ self.old) }
     {
         let next = self.laid_out(declaration)?;
+        self.put(next)?;
+        Ok(())
+    }
+
+    fn put(&mut self, next: StructLayout<'a>) -> Result<(), AllocError>
+        requires { IsLaid (map struct_of self.old) next }
+        ensures grows { OnOk result (self.new ≡ self.old ++ next.entry.declaration.now ∷ []) }
+        ensures kept { OnErr result (self.new ≡ self.old) }
+    {
+        let name = &next.declaration.name;
         self.structs.push(next)?;
-        let Ok(()) = self.names.push(&declaration.name) else {
-            self.structs.pop();
-            return Err(LayoutFault::NoMemory);
-        };
+        put_name(&mut self.names, &mut self.structs, name)?;
         Ok(())
     }
 
@@ -125,10 +151,19 @@ impl<'a> Layouts<'a> {
         ensures too_large { result ≡ Err LayoutFault.TooLarge → HasTooLarge [] (map struct_of structs.now) }
     {
         let mut layouts = Layouts::new(alloc);
-        for declaration in structs {
-            layouts.push(declaration)?;
-        }
+        layouts.push_all(structs)?;
         Ok(layouts)
+    }
+
+    fn push_all(&mut self, structs: &'a [StructDecl]) -> Result<(), LayoutFault>
+        requires { self.old ≡ [] }
+        ensures all { OnOk result (self.new ≡ structs.now) }
+        ensures too_large { result ≡ Err LayoutFault.TooLarge → HasTooLarge [] (map struct_of structs.now) }
+    {
+        for declaration in structs {
+            self.push(declaration)?;
+        }
+        Ok(())
     }
 
     /// The names of the structs.
