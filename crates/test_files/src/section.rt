@@ -71,19 +71,32 @@ fn take_line(
     texts: &[Section],
 ) -> Result<()> {
     match Edit::of_line(alloc, line, &[sections, given, texts])? {
-        Some(edit) => match open {
-            Some(section) => edit.apply(&mut section.content)?,
-            None => bail!("a line of bytes has no heading"),
-        },
-        None => {
-            let next = Section {
-                heading: String::from_str(alloc, line)?,
-                content: Vec::new(alloc),
-            };
-            if let Some(done) = open.replace(next) {
-                sections.push(done)?;
-            }
-        }
+        Some(edit) => apply(&edit, open),
+        None => begin(alloc, line, sections, open),
+    }
+}
+
+/// Changes the bytes of the section that is open.
+fn apply(edit: &Edit, open: &mut Option<Section>) -> Result<()> {
+    match open {
+        Some(section) => edit.apply(&mut section.content),
+        None => bail!("a line of bytes has no heading"),
+    }
+}
+
+/// Opens a section in place of the one that is open.
+fn begin(
+    alloc: Global,
+    heading: &str,
+    sections: &mut Vec<Section>,
+    open: &mut Option<Section>,
+) -> Result<()> {
+    let next = Section {
+        heading: String::from_str(alloc, heading)?,
+        content: Vec::new(alloc),
+    };
+    if let Some(done) = open.replace(next) {
+        sections.push(done)?;
     }
     Ok(())
 }
