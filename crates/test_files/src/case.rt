@@ -45,13 +45,24 @@ impl Case {
         given: &[Section],
         texts: &[Section],
     ) -> Result<()> {
-        for section in read_sections(alloc, text, given, texts)? {
+        let sections = read_sections(alloc, text, given, texts)?;
+        self.add_all(alloc, sections)?;
+        self.add_all_given(alloc, given)?;
+        ensure!(!self.calls.is_empty(), "there is no call");
+        Ok(())
+    }
+
+    fn add_all(&mut self, alloc: Global, sections: Vec<Section>) -> Result<()> {
+        for section in sections {
             self.add(alloc, section)?;
         }
+        Ok(())
+    }
+
+    fn add_all_given(&mut self, alloc: Global, given: &[Section]) -> Result<()> {
         for section in given {
             self.add_given(alloc, section)?;
         }
-        ensure!(!self.calls.is_empty(), "there is no call");
         Ok(())
     }
 
