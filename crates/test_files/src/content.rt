@@ -28,17 +28,24 @@ impl Edit {
     ) -> Result<Option<Edit>> {
         let (mark, rest) = line.split_once(' ').unwrap_or((line, ""));
         match mark {
+            "fill" => fill(rest),
+            "upto" => upto(rest),
+            "cut" => cut(rest),
+            "put" => put(alloc, rest),
+            "as" => add(copied_from(alloc, rest, places)),
+            _ => Edit::of_mark(alloc, mark, rest),
+        }
+    }
+
+    /// The edit that adds the bytes that a mark and what stands behind it make, if it is the mark of one.
+    fn of_mark(alloc: Global, mark: &str, rest: &str) -> Result<Option<Edit>> {
+        match mark {
             "|" => add(repeated(alloc, 0, 0, rest)),
             "+" => add(copied(alloc, rest.as_bytes())),
             "bytes" => add(numbers(alloc, rest, 1)),
             "halves" => add(numbers(alloc, rest, 2)),
             "words" => add(numbers(alloc, rest, 4)),
             "repeat" => add(repeated_between(alloc, rest)),
-            "as" => add(copied_from(alloc, rest, places)),
-            "fill" => fill(rest),
-            "upto" => upto(rest),
-            "cut" => cut(rest),
-            "put" => put(alloc, rest),
             _ => Ok(None),
         }
     }
@@ -62,13 +69,13 @@ fn add(bytes: Result<Vec<u8>>) -> Result<Option<Edit>> {
 }
 
 fn fill(text: &str) -> Result<Option<Edit>> {
-    let (count, byte) = number_and_rest(text)?;
-    Ok(Some(Edit::Fill(count, u8::from_str_radix(byte, 16)?)))
+    let (count, byte) = number_and_byte(text)?;
+    Ok(Some(Edit::Fill(count, byte)))
 }
 
 fn upto(text: &str) -> Result<Option<Edit>> {
-    let (length, byte) = number_and_rest(text)?;
-    Ok(Some(Edit::Upto(length, u8::from_str_radix(byte, 16)?)))
+    let (length, byte) = number_and_byte(text)?;
+    Ok(Some(Edit::Upto(length, byte)))
 }
 
 fn cut(text: &str) -> Result<Option<Edit>> {
@@ -115,6 +122,12 @@ pub(crate) fn number_and_rest(text: &str) -> Result<(usize, &str)> {
     Ok((number.parse()?, rest))
 }
 
+/// A decimal number, and a byte in hexadecimal behind the blank that follows it.
+fn number_and_byte(text: &str) -> Result<(usize, u8)> {
+    let (number, byte) = number_and_rest(text)?;
+    Ok((number, u8::from_str_radix(byte, 16)?))
+}
+
 /// Numbers in hexadecimal between blanks, each as so many bytes, at most 4, with the lowest one first.
 fn numbers(alloc: Global, text: &str, width: u32) -> Result<Vec<u8>> {
     let mut all = Vec::new(alloc);
@@ -130,13 +143,20 @@ fn add_numbers(all: &mut Vec<u8>, text: &str, width: u32) -> Result<()> {
 }
 
 fn add_number(all: &mut Vec<u8>, word: &str, width: u32) -> Result<()> {
-    let mut rest = u32::from_str_radix(word, 16)?;
+    let number = u32::from_str_radix(word, 16)?;
+    let rest = add_low_bytes(all, number, width)?;
+    ensure!(rest == 0, "{word} is too wide");
+    Ok(())
+}
+
+/// Adds so many bytes of a number, with the lowest one first, and answers what is left of it.
+fn add_low_bytes(all: &mut Vec<u8>, number: u32, width: u32) -> Result<u32> {
+    let mut rest = number;
     for _ in 0..width {
         all.push((rest & 0xff) as u8)?;
         rest >>= 8;
     }
-    ensure!(rest == 0, "{word} is too wide");
-    Ok(())
+    Ok(rest)
 }
 
 /// A line of a text for each number between the two that stand before it.
