@@ -37,10 +37,7 @@ pub(crate) enum Wanted {
 impl Call {
     /// A call of words, which is to end with status 0, print nothing and change no file.
     pub(crate) fn of_words(alloc: Global, text: &str) -> Result<Call> {
-        let mut words = Vec::new(alloc);
-        for word in text.split_whitespace() {
-            words.push(String::from_str(alloc, word)?)?;
-        }
+        let words = words_of(alloc, text)?;
         Ok(Call {
             words,
             out_fails: Vec::new(alloc),
@@ -61,30 +58,56 @@ impl Call {
         content: Vec<u8>,
     ) -> Result<()> {
         match key {
-            "word" => self.words.push(String::from_utf8(content)?)?,
-            "out" => self.out = content,
-            "err" => self.err = content,
-            "out-fails" => self.out_fails = numbers(alloc, rest)?,
-            "err-fails" => self.err_fails = numbers(alloc, rest)?,
-            "status" => {
-                let (status, line) = rest.split_once(' ').unwrap_or((rest, ""));
-                self.status = status.parse()?;
-                if !line.is_empty() {
-                    self.err = format!(in alloc; "{line}\n")?.into_bytes();
-                }
+            "word" => self.add_word(content),
+            "out" => {
+                self.out = content;
+                Ok(())
             }
-            "holds" => self.hold(alloc, rest, Wanted::Whole(content))?,
-            "size" => {
-                let (size, name) = number_and_rest(rest)?;
-                self.hold(alloc, name, Wanted::Size(size))?;
+            "err" => {
+                self.err = content;
+                Ok(())
             }
-            "part" => {
-                let (place, name) = number_and_rest(rest)?;
-                self.hold(alloc, name, Wanted::Part(place, content))?;
-            }
+            "holds" => self.hold(alloc, rest, Wanted::Whole(content)),
+            "part" => self.hold_part(alloc, rest, content),
+            _ => self.add_heading(alloc, key, rest),
+        }
+    }
+
+    /// Takes up a section of which only the heading counts.
+    fn add_heading(&mut self, alloc: Global, key: &str, rest: &str) -> Result<()> {
+        match key {
+            "out-fails" => replace_numbers(alloc, &mut self.out_fails, rest),
+            "err-fails" => replace_numbers(alloc, &mut self.err_fails, rest),
+            "status" => self.end_with(alloc, rest),
+            "size" => self.hold_size(alloc, rest),
             _ => bail!("no heading begins with {key}"),
         }
+    }
+
+    fn add_word(&mut self, content: Vec<u8>) -> Result<()> {
+        let word = String::from_utf8(content)?;
+        self.words.push(word)?;
         Ok(())
+    }
+
+    /// Takes up a status, and the line that may follow it.
+    fn end_with(&mut self, alloc: Global, text: &str) -> Result<()> {
+        let (status, line) = text.split_once(' ').unwrap_or((text, ""));
+        self.status = status.parse()?;
+        if !line.is_empty() {
+            self.err = format!(in alloc; "{line}\n")?.into_bytes();
+        }
+        Ok(())
+    }
+
+    fn hold_size(&mut self, alloc: Global, text: &str) -> Result<()> {
+        let (size, name) = number_and_rest(text)?;
+        self.hold(alloc, name, Wanted::Size(size))
+    }
+
+    fn hold_part(&mut self, alloc: Global, text: &str, part: Vec<u8>) -> Result<()> {
+        let (place, name) = number_and_rest(text)?;
+        self.hold(alloc, name, Wanted::Part(place, part))
     }
 
     fn hold(&mut self, alloc: Global, name: &str, wanted: Wanted) -> Result<()> {
@@ -94,11 +117,37 @@ impl Call {
     }
 }
 
+/// The words of a text.
+fn words_of(alloc: Global, text: &str) -> Result<Vec<String>> {
+    let mut words = Vec::new(alloc);
+    add_words(alloc, &mut words, text)?;
+    Ok(words)
+}
+
+fn add_words(alloc: Global, words: &mut Vec<String>, text: &str) -> Result<()> {
+    for word in text.split_whitespace() {
+        words.push(String::from_str(alloc, word)?)?;
+    }
+    Ok(())
+}
+
+/// Puts the numbers of a text in place of those that are there.
+fn replace_numbers(alloc: Global, old: &mut Vec<u64>, text: &str) -> Result<()> {
+    *old = numbers(alloc, text)?;
+    Ok(())
+}
+
 /// Decimal numbers between blanks.
 pub(crate) fn numbers(alloc: Global, text: &str) -> Result<Vec<u64>> {
     let mut all = Vec::new(alloc);
-    for word in text.split_whitespace() {
-        all.push(word.parse()?)?;
-    }
+    add_numbers(&mut all, text)?;
     Ok(all)
+}
+
+fn add_numbers(all: &mut Vec<u64>, text: &str) -> Result<()> {
+    for word in text.split_whitespace() {
+        let number: u64 = word.parse()?;
+        all.push(number)?;
+    }
+    Ok(())
 }

@@ -45,13 +45,24 @@ impl Case {
         given: &[Section],
         texts: &[Section],
     ) -> Result<()> {
-        for section in read_sections(alloc, text, given, texts)? {
+        let sections = read_sections(alloc, text, given, texts)?;
+        self.add_all(alloc, sections)?;
+        self.add_all_given(alloc, given)?;
+        ensure!(!self.calls.is_empty(), "there is no call");
+        Ok(())
+    }
+
+    fn add_all(&mut self, alloc: Global, sections: Vec<Section>) -> Result<()> {
+        for section in sections {
             self.add(alloc, section)?;
         }
+        Ok(())
+    }
+
+    fn add_all_given(&mut self, alloc: Global, given: &[Section]) -> Result<()> {
         for section in given {
             self.add_given(alloc, section)?;
         }
-        ensure!(!self.calls.is_empty(), "there is no call");
         Ok(())
     }
 
@@ -64,17 +75,34 @@ impl Case {
     fn add_parts(&mut self, alloc: Global, heading: &str, content: Vec<u8>) -> Result<()> {
         let (key, rest) = parts_of(heading);
         match key {
+            "file" => self.add_file(alloc, rest, Some(content)),
+            "fails" | "keep" | "call" | "gone" => self.add_heading(alloc, key, rest),
+            _ => self.add_to_call(alloc, key, rest, content),
+        }
+    }
+
+    /// Takes up a section of which only the heading counts.
+    fn add_heading(&mut self, alloc: Global, key: &str, rest: &str) -> Result<()> {
+        match key {
             "fails" => self.fails = numbers(alloc, rest)?,
             "keep" => self.keep = rest.parse()?,
             "call" => self.calls.push(Call::of_words(alloc, rest)?)?,
-            "file" => self.add_file(alloc, rest, Some(content))?,
-            "gone" => self.add_file(alloc, rest, None)?,
-            _ => match self.calls.last_mut() {
-                Some(call) => call.add(alloc, key, rest, content)?,
-                None => bail!("no heading before a call begins with {key}"),
-            },
+            _ => self.add_file(alloc, rest, None)?,
         }
         Ok(())
+    }
+
+    fn add_to_call(
+        &mut self,
+        alloc: Global,
+        key: &str,
+        rest: &str,
+        content: Vec<u8>,
+    ) -> Result<()> {
+        match self.calls.last_mut() {
+            Some(call) => call.add(alloc, key, rest, content),
+            None => bail!("no heading before a call begins with {key}"),
+        }
     }
 
     /// Takes up a file, or a name that is not there, unless the case has one of that name.

@@ -14,8 +14,17 @@ const MOST: u64 = 4_194_304;
 /// They differ, or one of them is not read.
 pub fn same(alloc: Global, files: &mut MemFiles, file: &str, other: &str) -> Result<()> {
     let one = bytes_of(alloc, files, file)?;
-    let two = bytes_of(alloc, files, other)?;
-    if one.as_slice() != two.as_slice() {
+    holds(alloc, files, other, &one)
+}
+
+/// Compares what a file holds with these bytes.
+fn holds(alloc: Global, files: &mut MemFiles, name: &str, wanted: &[u8]) -> Result<()> {
+    let bytes = bytes_of(alloc, files, name)?;
+    compare(&bytes, wanted)
+}
+
+fn compare(bytes: &[u8], wanted: &[u8]) -> Result<()> {
+    if bytes != wanted {
         bail!("they differ");
     }
     Ok(())
@@ -36,14 +45,36 @@ pub fn patch(
 ) -> Result<()> {
     let place: usize = place.parse()?;
     let mut bytes = bytes_of(alloc, files, file)?;
+    put_patched(alloc, files, &mut bytes, place, code, name)
+}
+
+/// Writes a file with these bytes, but from a place on those of a file.
+fn put_patched(
+    alloc: Global,
+    files: &mut MemFiles,
+    bytes: &mut [u8],
+    place: usize,
+    code: &str,
+    name: &str,
+) -> Result<()> {
     let code = bytes_of(alloc, files, code)?;
+    put_over(files, bytes, place, &code, name)
+}
+
+fn put_over(
+    files: &mut MemFiles,
+    bytes: &mut [u8],
+    place: usize,
+    code: &[u8],
+    name: &str,
+) -> Result<()> {
     for (k, byte) in code.iter().enumerate() {
         match bytes.get_mut(place.saturating_add(k)) {
             Some(old) => *old = *byte,
             None => bail!("past the end"),
         }
     }
-    put(files, name, &bytes)
+    put(files, name, bytes)
 }
 
 /// The bytes of a file.

@@ -33,19 +33,25 @@ pub(crate) fn run_case<P: Program>(
         keep,
         calls,
     } = Case::read(alloc, text, given, texts)?;
-    let mut files = files_of(alloc, entries, fails, keep)?;
-    run_calls(
-        alloc,
-        program,
-        names.as_slice(),
-        calls.as_slice(),
-        &mut files,
-    )
+    let files = files_of(alloc, entries, fails, keep);
+    run_over(alloc, program, names.as_slice(), calls.as_slice(), files)
 }
 
 fn files_of(alloc: Global, entries: Vec<MemEntry>, fails: Vec<u64>, keep: u32) -> Result<MemFiles> {
     ensure!(names_differ(&entries), "two files have one name");
     Ok(MemFiles::new(alloc, entries, fails, keep)?)
+}
+
+/// Runs calls over files, if they were made.
+fn run_over<P: Program>(
+    alloc: Global,
+    program: &P,
+    names: &[String],
+    calls: &[Call],
+    files: Result<MemFiles>,
+) -> Result<()> {
+    let mut files = files?;
+    run_calls(alloc, program, names, calls, &mut files)
 }
 
 fn run_calls<P: Program>(
@@ -56,8 +62,18 @@ fn run_calls<P: Program>(
     files: &mut MemFiles,
 ) -> Result<()> {
     let mut known = held_before(alloc, names, files)?;
+    compare_calls(alloc, program, calls, files, &mut known)
+}
+
+fn compare_calls<P: Program>(
+    alloc: Global,
+    program: &P,
+    calls: &[Call],
+    files: &mut MemFiles,
+    known: &mut [Before<'_>],
+) -> Result<()> {
     for call in calls {
-        compare_call(alloc, program, call, files, &mut known)?;
+        compare_call(alloc, program, call, files, known)?;
     }
     Ok(())
 }
@@ -68,12 +84,22 @@ fn held_before<'a>(
     files: &MemFiles,
 ) -> Result<Vec<Before<'a>>> {
     let mut known = Vec::new(alloc);
+    add_held(alloc, &mut known, names, files)?;
+    Ok(known)
+}
+
+fn add_held<'a>(
+    alloc: Global,
+    known: &mut Vec<Before<'a>>,
+    names: &'a [String],
+    files: &MemFiles,
+) -> Result<()> {
     for name in names {
         let name = name.as_str();
         let bytes = copied(alloc, files.held(name))?;
         known.push(Before { name, bytes })?;
     }
-    Ok(known)
+    Ok(())
 }
 
 /// Makes a call and compares what it leaves.
@@ -88,8 +114,13 @@ fn compare_call<P: Program>(
     for before in known {
         compare_file(alloc, before, files, &call.held)?;
     }
-    for held in call.held.iter() {
-        let name = held.name.as_str();
+    all_there(files, &call.held)
+}
+
+/// Tells the first file that is to hold something and is not there.
+fn all_there(files: &MemFiles, held: &[Held]) -> Result<()> {
+    for fact in held {
+        let name = fact.name.as_str();
         ensure!(files.held(name).is_some(), "{name} is not there");
     }
     Ok(())
@@ -102,10 +133,26 @@ fn run_call<P: Program>(
     call: &Call,
     files: &mut MemFiles,
 ) -> Result<()> {
-    let mut out = MemSink::new(alloc, ROOM, call.out_fails.clone()?)?;
-    let mut err = MemSink::new(alloc, ROOM, call.err_fails.clone()?)?;
-    let status = program.call(alloc, &call.words, files, &mut out, &mut err);
+    let mut out = sink(alloc, &call.out_fails)?;
+    run_with_out(alloc, program, call, files, &mut out)
+}
+
+fn run_with_out<P: Program>(
+    alloc: Global,
+    program: &P,
+    call: &Call,
+    files: &mut MemFiles,
+    out: &mut MemSink,
+) -> Result<()> {
+    let mut err = sink(alloc, &call.err_fails)?;
+    let status = program.call(alloc, &call.words, files, out, &mut err);
     compare_printed(call, status, out.bytes(), err.bytes())
+}
+
+/// A sink on which these calls fail.
+fn sink(alloc: Global, fails: &Vec<u64>) -> Result<MemSink> {
+    let fails = fails.clone()?;
+    Ok(MemSink::new(alloc, ROOM, fails)?)
 }
 
 fn compare_printed(call: &Call, status: u8, out: &[u8], err: &[u8]) -> Result<()> {
@@ -128,7 +175,12 @@ fn compare(what: &str, bytes: &[u8], wanted: &[u8]) -> Result<()> {
         return Ok(());
     }
     let text = str::from_utf8(bytes).context(what)?;
-    let mut others = str::from_utf8(wanted).context(what)?.lines();
+    let wanted = str::from_utf8(wanted).context(what)?;
+    compare_lines(what, text, wanted)
+}
+
+fn compare_lines(what: &str, text: &str, wanted: &str) -> Result<()> {
+    let mut others = wanted.lines();
     for line in text.lines() {
         ensure!(others.next() == Some(line), "{what} has {line:?}");
     }
@@ -144,6 +196,17 @@ fn compare_file(
 ) -> Result<()> {
     let name = before.name;
     let bytes = files.held(name);
+    let told = is_told(name, bytes, held)?;
+    if is_same(bytes, &before.bytes) {
+        return Ok(());
+    }
+    ensure!(told, "{name} has changed");
+    before.bytes = copied(alloc, bytes)?;
+    Ok(())
+}
+
+/// Whether something is said of a file, all of which has to be so.
+fn is_told(name: &str, bytes: Option<&[u8]>, held: &[Held]) -> Result<bool> {
     let mut told = false;
     for fact in held {
         if fact.name.as_str() == name {
@@ -151,16 +214,15 @@ fn compare_file(
             told = true;
         }
     }
-    let same = match (bytes, &before.bytes) {
+    Ok(told)
+}
+
+fn is_same(bytes: Option<&[u8]>, old: &Option<Vec<u8>>) -> bool {
+    match (bytes, old) {
         (Some(bytes), Some(old)) => bytes == old.as_slice(),
         (None, None) => true,
         _ => false,
-    };
-    if !same {
-        ensure!(told, "{name} has changed");
-        before.bytes = copied(alloc, bytes)?;
     }
-    Ok(())
 }
 
 fn holds(bytes: Option<&[u8]>, wanted: &Wanted) -> bool {

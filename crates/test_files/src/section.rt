@@ -47,18 +47,41 @@ pub(crate) fn read_sections(
     texts: &[Section],
 ) -> Result<Vec<Section>> {
     let mut sections = Vec::new(alloc);
+    add_sections(alloc, text, &mut sections, given, texts)?;
+    Ok(sections)
+}
+
+fn add_sections(
+    alloc: Global,
+    text: &str,
+    sections: &mut Vec<Section>,
+    given: &[Section],
+    texts: &[Section],
+) -> Result<()> {
     let mut open: Option<Section> = None;
+    take_lines(alloc, text, sections, &mut open, given, texts)?;
+    if let Some(done) = open {
+        sections.push(done)?;
+    }
+    Ok(())
+}
+
+fn take_lines(
+    alloc: Global,
+    text: &str,
+    sections: &mut Vec<Section>,
+    open: &mut Option<Section>,
+    given: &[Section],
+    texts: &[Section],
+) -> Result<()> {
     for line in text.lines() {
         let line = line.trim_start();
         if line.is_empty() || line.starts_with('#') {
             continue;
         }
-        take_line(alloc, line, &mut sections, &mut open, given, texts)?;
+        take_line(alloc, line, sections, open, given, texts)?;
     }
-    if let Some(done) = open {
-        sections.push(done)?;
-    }
-    Ok(sections)
+    Ok(())
 }
 
 /// Takes up a line: an edit of the bytes of the section that is open, or a heading, which opens one.
@@ -71,19 +94,32 @@ fn take_line(
     texts: &[Section],
 ) -> Result<()> {
     match Edit::of_line(alloc, line, &[sections, given, texts])? {
-        Some(edit) => match open {
-            Some(section) => edit.apply(&mut section.content)?,
-            None => bail!("a line of bytes has no heading"),
-        },
-        None => {
-            let next = Section {
-                heading: String::from_str(alloc, line)?,
-                content: Vec::new(alloc),
-            };
-            if let Some(done) = open.replace(next) {
-                sections.push(done)?;
-            }
-        }
+        Some(edit) => apply(&edit, open),
+        None => begin(alloc, line, sections, open),
+    }
+}
+
+/// Changes the bytes of the section that is open.
+fn apply(edit: &Edit, open: &mut Option<Section>) -> Result<()> {
+    match open {
+        Some(section) => edit.apply(&mut section.content),
+        None => bail!("a line of bytes has no heading"),
+    }
+}
+
+/// Opens a section in place of the one that is open.
+fn begin(
+    alloc: Global,
+    heading: &str,
+    sections: &mut Vec<Section>,
+    open: &mut Option<Section>,
+) -> Result<()> {
+    let next = Section {
+        heading: String::from_str(alloc, heading)?,
+        content: Vec::new(alloc),
+    };
+    if let Some(done) = open.replace(next) {
+        sections.push(done)?;
     }
     Ok(())
 }
