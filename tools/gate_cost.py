@@ -7,6 +7,7 @@
     tools/gate_cost.py table FILE       # a table: each crate's own proof, and its must-fail edits
     tools/gate_cost.py chain FILE       # the chain of crates, each standing on the one before it, whose proofs take longest
     tools/gate_cost.py paths            # the ways from each crate down to all below it, which some kits go one by one
+    tools/gate_cost.py functions CRATE  # seconds by function, dearest first, of `rt check --jobs 1` in its folder with nothing kept in out/
 
 It counts the processes that run in this checkout, and those that try edits, whose folders do not tell of which checkout they are. A kit that
 keeps what it proved has to be told to begin from nothing.
@@ -14,8 +15,10 @@ keeps what it proved has to be told to begin from nothing.
 
 import collections
 import collections.abc
+import itertools
 import json
 import os
+import re
 import sys
 import time
 
@@ -106,7 +109,25 @@ def chain(path):
     print(f"{total:.1f}: {' '.join(crates)}")
 
 
-COMMANDS: dict[str, collections.abc.Callable[..., None]] = {"record": record, "table": table, "chain": chain, "paths": paths}
+def functions(crate):
+    """Prints the seconds between the times at which a check wrote its files, by the function that they are of; what is of none by the file."""
+    folder = os.path.join(os.path.dirname(__file__), "..", "crates", crate, "out", "incremental")
+    names = [(os.stat(os.path.join(at, name)).st_mtime, name) for at, _, files in os.walk(folder) for name in files]
+    seconds: collections.Counter[str] = collections.Counter()
+    for (before, _), (written, name) in itertools.pairwise(sorted(names)):
+        part = re.fullmatch(r"Rattle-\w+-proofs\.(.+)\.[A-Z][\w+-]*?(\.decls)?\.oantt", name)
+        seconds[part[1] if part else name] += written - before
+    for name, spent in seconds.most_common():
+        print(f"{spent:8.1f} {name}")
+
+
+COMMANDS: dict[str, collections.abc.Callable[..., None]] = {
+    "record": record,
+    "table": table,
+    "chain": chain,
+    "paths": paths,
+    "functions": functions,
+}
 
 if __name__ == "__main__":
     COMMANDS[sys.argv[1]](*sys.argv[2:])
