@@ -157,7 +157,7 @@ fn lines_by(
         × AreLines (firmware_of firmware.now) compartments tape steps lines.items) }
 {
     let divided = divided(alloc, firmware, policy)?;
-    lines_on(
+    let lines = lines_on(
         alloc,
         firmware,
         &divided.program,
@@ -165,5 +165,6 @@ fn lines_by(
         tape,
         again,
         steps,
-    )
+    )?;
+    Ok(lines)
 }

@@ -24,3 +24,6 @@ returns-in_err-checked g c told held reads writes =
     subst (Does all r w w) (sym x.1)
     (content_failed all (IsNoFirmware c.args.bytes.now) r firmware w w (record { held = refl; write_faults = refl; out = refl }) refl (λ f h. no_firmware f h) x.0
     (subst (IsContentFailure (IsNoFirmware c.args.bytes.now) firmware) (sym x.2) c.in_err-checked.ensures.err))
+
+pub returns : goal.returns
+returns g c told held reads writes = c.source_checked.ensures c.args.firmware.now c.args.bytes.now c.in_ok-checked.ensures.ok told held reads writes

@@ -19,3 +19,9 @@ returns-in_err-checked-clause-err c =
     let x = err_from_is_err_and c.from_residual.result c.from_residual.ensures.1 in
     rw x.1 (content_refused all (IsNoFirmware bytes) firmware (λ f h. no_firmware f h) x.0
     (subst (IsContentFailure (IsNoFirmware bytes) firmware) (sym x.2) c.in_err-checked.ensures.err))
+
+pub returns-clause-ok : goal.returns-clause-ok
+returns-clause-ok c = c.where_checked.ensures.ok c.args.firmware.now c.args.bytes.now c.in_ok-checked.ensures.ok
+
+pub returns-clause-err : goal.returns-clause-err
+returns-clause-err c = c.where_checked.ensures.err c.args.firmware.now c.args.bytes.now c.in_ok-checked.ensures.ok
