@@ -4,9 +4,8 @@ use Rattle.machine_devices.specs.Tape.{queues_of}
 use Rattle.ir_model.specs.Plain.{firmware_of}
 use Rattle.ir_output.specs.SourceRuns.{source_end, source_lines, end_status}
 use Rattle.aces_words.specs.Requests.{Source}
-use Rattle.aces_firmwares.specs.Answers.{SourceAnswer, no_firmware, no_tape, source_outcome}
+use Rattle.aces_firmwares.specs.Answers.{SourceAnswer, no_tape, source_outcome}
 use Rattle.aces_files.specs.Contents.{IsNoTape}
-use Rattle.aces_firmwares.specs.Firmwares.{IsNoFirmware}
 use Rattle.base_outside.specs.Sinks.{sink}
 use Rattle.aces_files.specs.Effects.{Does, World}
 use Rattle.aces_files.specs.Loads.{IsContentFailure}

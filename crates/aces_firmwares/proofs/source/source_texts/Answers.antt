@@ -1,17 +1,12 @@
-use Rattle.std.proofs.Common.{◌∙◌, ◌++◌, inr, refl, ap, sym, subst}
+use Rattle.std.proofs.Common.{refl, sym, subst}
 use Rattle.std.proofs.lemmas.Result.{err_from_is_err_and}
-use Rattle.machine_devices.specs.Tape.{queues_of}
-use Rattle.ir_model.specs.Plain.{firmware_of}
-use Rattle.ir_output.specs.SourceRuns.{source_end, source_lines, end_status}
 use Rattle.aces_words.specs.Requests.{Source}
-use Rattle.aces_firmwares.specs.Answers.{SourceAnswer, no_firmware, no_tape, source_outcome}
-use Rattle.aces_files.specs.Contents.{IsNoTape}
+use Rattle.aces_firmwares.specs.Answers.{SourceAnswer, no_firmware}
 use Rattle.aces_firmwares.specs.Firmwares.{IsNoFirmware}
 use Rattle.base_outside.specs.Sinks.{sink}
 use Rattle.aces_files.specs.Effects.{Does, World}
 use Rattle.aces_files.specs.Loads.{IsContentFailure}
-use Rattle.aces_files.proofs.Ends.{content_failed, did_end}
-use Rattle.aces_firmwares.proofs.Sourcing.{windows_made, has_run}
+use Rattle.aces_files.proofs.Ends.{content_failed}
 use Rattle.aces_firmwares.proofs.source.source_texts.Goals as goal
 
 pub returns-in_err-checked : goal.returns-in_err-checked

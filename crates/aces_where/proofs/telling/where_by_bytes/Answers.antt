@@ -1,14 +1,9 @@
-use Rattle.std.proofs.Common.{◌∙◌, ap, sym, subst}
+use Rattle.std.proofs.Common.{sym, subst}
 use Rattle.std.proofs.lemmas.Result.{err_from_is_err_and}
-use Rattle.machine_devices.specs.Tape.{queues_of, first_fault}
-use Rattle.ir_model.specs.Plain.{firmware_of}
-use Rattle.aces_files.specs.Contents.{IsNoTape}
 use Rattle.aces_files.specs.Loads.{IsContentFailure}
 use Rattle.aces_files.proofs.Ends.{content_refused}
 use Rattle.aces_firmwares.specs.Firmwares.{IsNoFirmware}
-use Rattle.aces_firmwares.proofs.Sourcing.{windows_made}
-use Rattle.aces_where.specs.Answers.{WhereAnswer, no_firmware, no_tape, stands}
-use Rattle.aces_where.specs.Runs.{AreLines}
+use Rattle.aces_where.specs.Answers.{WhereAnswer, no_firmware}
 use Rattle.aces_where.proofs.telling.where_by_bytes.Goals as goal
 
 pub returns-in_err-checked-clause-err : goal.returns-in_err-checked-clause-err

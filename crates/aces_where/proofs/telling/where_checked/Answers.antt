@@ -5,9 +5,8 @@ use Rattle.ir_model.specs.Plain.{firmware_of}
 use Rattle.aces_files.specs.Contents.{IsNoTape}
 use Rattle.aces_files.specs.Loads.{IsContentFailure}
 use Rattle.aces_files.proofs.Ends.{content_refused}
-use Rattle.aces_firmwares.specs.Firmwares.{IsNoFirmware}
 use Rattle.aces_firmwares.proofs.Sourcing.{windows_made}
-use Rattle.aces_where.specs.Answers.{WhereAnswer, no_firmware, no_tape, stands}
+use Rattle.aces_where.specs.Answers.{WhereAnswer, no_tape, stands}
 use Rattle.aces_where.specs.Runs.{AreLines}
 use Rattle.aces_where.proofs.telling.where_checked.Goals as goal
 
