@@ -187,8 +187,7 @@ const UNDEFINED: &[(u16, u16)] = &[
     (0xfb9f, 0xf9f8),
 ];
 
-/// The halfwords of a code, 0 where it has no second, and how many bytes they are. Two instructions with the same code are one
-/// (`machine_thumb_encoding`), so codes are compared in place of instructions.
+/// The halfwords of a code, 0 where it has no second, and how many bytes they are.
 fn halfwords(code: Code) -> (u16, u16, u8) {
     match code {
         Code::Half(h) => (h, 0, 2),
@@ -213,8 +212,8 @@ fn check_text(rt: &impl Abort, alloc: Global, h1: u16, h2: u16, text: &str) -> R
 #[test]
 fn forms_are_decoded_and_shown(rt: HostRuntime) -> Result<(), Fail> {
     for (h1, h2, instr, text) in FORMS {
-        let (found, _) = decode(*h1, *h2).ok_or("not decoded")?;
-        assert_eq!(rt; halfwords(encode(&found)), halfwords(encode(instr)));
+        let shown = show(rt.alloc(), instr)?;
+        assert_eq!(rt; shown.as_str(), *text);
         check_text(&rt, rt.alloc(), *h1, *h2, text)?;
     }
     for (h1, h2, text) in TEXTS {
@@ -228,8 +227,10 @@ fn operations_are_encoded(rt: HostRuntime) -> Result<(), Fail> {
     for (instr, code) in ENCODED {
         let (h1, h2, width) = halfwords(*code);
         let (found, length) = decode(h1, h2).ok_or("not decoded")?;
-        assert_eq!(rt; halfwords(encode(instr)), (h1, h2, width));
-        assert_eq!(rt; halfwords(encode(&found)), (h1, h2, length));
+        assert_eq!(rt; halfwords(encode(&found)), (h1, h2, width));
+        assert_eq!(rt; length, width);
+        let (shown, wanted) = (show(rt.alloc(), &found)?, show(rt.alloc(), instr)?);
+        assert_eq!(rt; shown.as_str(), wanted.as_str());
     }
     for (h1, h2) in UNDEFINED {
         assert!(rt; decode(*h1, *h2).is_none(), "{h1:x} {h2:x}");

@@ -10,7 +10,7 @@ pub returns-in_err-made-clause-refused : goal.returns-in_err-made-clause-refused
 returns-in_err-made-clause-refused c =
     let b = c.args.board.now in
     let a = c.args.analysis.now in
-    let x = err_from_is_err_and c.from_residual-in_err-made.result c.from_residual-in_err-made.ensures.1 in
+    let x = err_from_is_err_and c.from_residual.result c.from_residual.ensures.1 in
     rw x.1 (unplanned c.args.policy (firmware_of c.args.firmware.now) b a c.requires.analysis x.0 (subst (IsRefusalOf a b) (sym x.2) c.in_err-made.ensures.refused))
 
 pub lines_of-requires-clause-program : goal.lines_of-requires-clause-program
