@@ -58,11 +58,7 @@ fn unplanned(
     ensures { IfOk result (λ t. IsPlanTold policy (firmware_of firmware.now) board.now (status_of (Ok t.done)) t.lines.items) }
 {
     let done = done_by(refusal)?;
-    let Analysis {
-        program,
-        needs,
-        groups,
-    } = analysis;
+    let (program, needs, groups) = analysis.into_parts();
     let lines = refusal_told(
         alloc,
         firmware.firmware(),

@@ -23,12 +23,20 @@ use std::alloc::Global;
 const FILE_LIMIT: u32 = 16_777_216;
 
 /// The bytes of two files.
-#[derive(Drop)]
 pub struct Both {
     /// Those of the first.
     pub first: Vec<u8>,
     /// Those of the second.
     pub second: Vec<u8>,
+}
+
+impl Drop for Both {
+    fn drop(self) {
+        let Both {
+            first: _,
+            second: _,
+        } = self;
+    }
 }
 
 /// The bytes of an image, of a tape or of a board.

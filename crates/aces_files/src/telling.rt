@@ -7,12 +7,17 @@ use aces_reports::{Done, Failure};
 use base_outside::Sink;
 
 /// Lines, and how the command ends that prints them.
-#[derive(Drop)]
 pub struct CommandOutput {
     /// The lines.
     pub lines: Vec<u8>,
     /// The end.
     pub done: Done,
+}
+
+impl Drop for CommandOutput {
+    fn drop(self) {
+        let CommandOutput { lines: _, done: _ } = self;
+    }
 }
 
 /// Prints these lines, and ends the command so.

@@ -80,11 +80,7 @@ pub fn divided(
     ensures compartments { IfOk result (λ made. AreCompartmentsBy policy (plain.firmware_of firmware.now) made.compartments.items) }
 {
     let analysis = analyse(alloc, firmware, policy, false)?;
-    let Analysis {
-        program,
-        needs: _needs,
-        groups,
-    } = analysis;
+    let (program, _, groups) = analysis.into_parts();
     let compartments = groups.of.into_vec();
     Ok(DividedProgram {
         program,

@@ -10,7 +10,6 @@ use machine_model::state::End;
 use std::alloc::{AllocError, Global};
 
 /// What a run of a machine did.
-#[derive(Drop)]
 pub struct MachineCount {
     /// How many steps it took, that by which it ended among them.
     pub steps: u64,
@@ -18,6 +17,16 @@ pub struct MachineCount {
     pub events: Vec<Event>,
     /// How it ended; none where it goes on.
     pub end: Option<End>,
+}
+
+impl Drop for MachineCount {
+    fn drop(self) {
+        let MachineCount {
+            steps: _,
+            events: _,
+            end: _,
+        } = self;
+    }
 }
 
 /// Makes at most so many steps of a machine that has not ended, up to its end.

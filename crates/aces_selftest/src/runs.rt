@@ -61,11 +61,7 @@ pub(crate) fn run_source(
 {
     firmware.firmware();
     let analysis = analyse(alloc, firmware, Policy::Filename, false)?;
-    let Analysis {
-        program,
-        needs: _needs,
-        groups,
-    } = analysis;
+    let (program, _, groups) = analysis.into_parts();
     let functions = program.funcs.len();
     let count = counted(alloc, &program, groups.of.into_vec(), tape)?;
     Ok(SourceTest { functions, count })

@@ -10,7 +10,6 @@ use ir_run::run::SourceRun;
 use std::alloc::{AllocError, Global};
 
 /// What a run of a source did.
-#[derive(Drop)]
 pub struct SourceCount {
     /// How many steps it took, that by which it ended among them.
     pub steps: u32,
@@ -18,6 +17,16 @@ pub struct SourceCount {
     pub events: Vec<Event>,
     /// How it ended; none where it goes on.
     pub end: Option<SourceEnd>,
+}
+
+impl Drop for SourceCount {
+    fn drop(self) {
+        let SourceCount {
+            steps: _,
+            events: _,
+            end: _,
+        } = self;
+    }
 }
 
 /// Makes at most so many steps of a run that has made none, up to its end.

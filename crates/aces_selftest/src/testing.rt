@@ -19,13 +19,24 @@ use monitor_laws::images::sound_images_are_placed;
 use std::alloc::{AllocError, Global};
 
 /// What a self-test finds.
-#[derive(Drop)]
 pub(crate) struct Tested {
     pub(crate) functions: usize,
     pub(crate) compartments: usize,
     pub(crate) sites: usize,
     pub(crate) source: SourceCount,
     pub(crate) image: MachineCount,
+}
+
+impl Drop for Tested {
+    fn drop(self) {
+        let Tested {
+            functions: _,
+            compartments: _,
+            sites: _,
+            source: _,
+            image: _,
+        } = self;
+    }
 }
 
 /// Runs the source and the image of the firmware of a seed and a size.

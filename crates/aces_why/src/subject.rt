@@ -7,7 +7,6 @@ use ir_program::program::Program;
 use plan_model::needs::Needs;
 
 /// What is found of a program.
-#[derive(Drop)]
 pub struct Findings {
     /// What its functions may reach, on an open board.
     pub needs: Needs,
@@ -17,6 +16,17 @@ pub struct Findings {
     pub called: ListVec<bool>,
     /// For each function and each of its blocks, whether it is the first, or is reached from there.
     pub entered: ListVec<ListVec<bool>>,
+}
+
+impl Drop for Findings {
+    fn drop(self) {
+        let Findings {
+            needs: _,
+            sets: _,
+            called: _,
+            entered: _,
+        } = self;
+    }
 }
 
 /// A firmware with what was found of it.

@@ -14,9 +14,14 @@ use std::marker::Model;
 use thiserror::Error;
 
 /// A word of 1 to 64 bytes that is not reserved, seen as the list of its bytes.
-#[derive(Drop)]
 pub struct Name {
     word: Vec<u8>,
+}
+
+impl Drop for Name {
+    fn drop(self) {
+        let Name { word: _ } = self;
+    }
 }
 
 impl Model for Name {

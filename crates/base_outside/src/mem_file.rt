@@ -7,12 +7,22 @@ use crate::MemEntry;
 use std::alloc::AllocError;
 use std::marker::Model;
 
-#[derive(Drop)]
 pub(crate) struct MemFile {
     name: Vec<u8>,
     there: bool,
     bytes: Vec<u8>,
     room: usize,
+}
+
+impl Drop for MemFile {
+    fn drop(self) {
+        let MemFile {
+            name: _,
+            there: _,
+            bytes: _,
+            room: _,
+        } = self;
+    }
 }
 
 impl Model for MemFile {

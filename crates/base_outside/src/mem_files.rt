@@ -12,7 +12,6 @@ use std::alloc::{AllocError, Global};
 use std::marker::Model;
 
 /// Files in memory: a fixed set of names, each with a fixed room, and calls that fail by their numbers.
-#[derive(Drop)]
 pub struct MemFiles {
     files: Vec<MemFile>,
     fails: Vec<u64>,
@@ -20,6 +19,19 @@ pub struct MemFiles {
     calls: u64,
     read_faults: u64,
     write_faults: u64,
+}
+
+impl Drop for MemFiles {
+    fn drop(self) {
+        let MemFiles {
+            files: _,
+            fails: _,
+            keep: _,
+            calls: _,
+            read_faults: _,
+            write_faults: _,
+        } = self;
+    }
 }
 
 impl Model for MemFiles {

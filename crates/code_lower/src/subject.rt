@@ -29,7 +29,6 @@ pub(crate) struct Lent {
 }
 
 /// A function whose code is put.
-#[derive(Drop)]
 pub(crate) struct Subject<'a> {
     /// The firmware.
     pub program: &'a Program<'a>,
@@ -45,6 +44,20 @@ pub(crate) struct Subject<'a> {
     pub lent: Vec<Lent>,
     /// The label of each block.
     pub labels: Vec<Label>,
+}
+
+impl Drop for Subject<'_> {
+    fn drop(self) {
+        let Subject {
+            program: _,
+            routine: _,
+            places: _,
+            words: _,
+            starts: _,
+            lent: _,
+            labels: _,
+        } = self;
+    }
 }
 
 /// Puts a local that begins there behind others, if it has a number by which it is lent.

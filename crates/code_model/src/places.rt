@@ -14,7 +14,6 @@ pub struct CallSite {
 }
 
 /// The addresses of all globals, windows and functions of a firmware. They are absolute and in bytes.
-#[derive(Drop)]
 pub struct Addresses {
     /// The first address of each global.
     pub globals: ListVec<u32>,
@@ -24,8 +23,17 @@ pub struct Addresses {
     pub entries: ListVec<u32>,
 }
 
+impl Drop for Addresses {
+    fn drop(self) {
+        let Addresses {
+            globals: _,
+            windows: _,
+            entries: _,
+        } = self;
+    }
+}
+
 /// What the code of one function needs from outside. Addresses are absolute and in bytes.
-#[derive(Drop)]
 pub struct Places {
     /// The first address of each global.
     pub globals: ListVec<u32>,
@@ -37,4 +45,16 @@ pub struct Places {
     pub sites: ListVec<CallSite>,
     /// Of each local of the function, the number by which it is lent to other compartments, if it is.
     pub lends: ListVec<Option<u32>>,
+}
+
+impl Drop for Places {
+    fn drop(self) {
+        let Places {
+            globals: _,
+            windows: _,
+            entries: _,
+            sites: _,
+            lends: _,
+        } = self;
+    }
 }

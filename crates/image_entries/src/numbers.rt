@@ -21,12 +21,17 @@ use plan_model::needs::SiteNeed;
 use std::alloc::{AllocError, Global};
 
 /// Of each function, its calls that may go to another compartment, and the number of each of its locals that is lent.
-#[derive(Drop)]
 pub struct Numbers {
     /// The calls of each function that may go to another compartment.
     pub sites: ListVec<ListVec<CallSite>>,
     /// Of each local of each function, the number by which it is lent, if it is.
     pub lends: ListVec<ListVec<Option<u32>>>,
+}
+
+impl Drop for Numbers {
+    fn drop(self) {
+        let Numbers { sites: _, lends: _ } = self;
+    }
 }
 
 /// The calls of each of so many functions among crossing sites.

@@ -177,7 +177,6 @@ fn tables(
 }
 
 /// What an image is made of: the numbers of calls and of lent locals, where everything lies, and the monitor's tables.
-#[derive(Drop)]
 pub struct LinkParts {
     /// Of each function, the numbers of its calls' sites and of its lent locals.
     pub numbers: Numbers,
@@ -185,6 +184,16 @@ pub struct LinkParts {
     pub addresses: Addresses,
     /// The monitor's tables.
     pub tables: Tables,
+}
+
+impl Drop for LinkParts {
+    fn drop(self) {
+        let LinkParts {
+            numbers: _,
+            addresses: _,
+            tables: _,
+        } = self;
+    }
 }
 
 /// What the image of a firmware is made of, by its needs, its graph of compartments, its plan and a board.

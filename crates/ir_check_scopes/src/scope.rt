@@ -15,7 +15,6 @@ use ir_model::types::Ty;
 use ir_names::Names;
 
 /// A firmware with its names, and the layouts of its structs. Each table has what the firmware has, in its order.
-#[derive(Drop)]
 pub struct Scope<'a> {
     /// The firmware.
     pub firmware: &'a Firmware,
@@ -39,8 +38,21 @@ pub struct Scope<'a> {
     pub ghost all_bodies: { lent bodies.items ≡ declared_funcs firmware.now } by { Coded-set (Prim.hlevel (codes, types.the_row.coded)) _ _ },
 }
 
+impl Drop for Scope<'_> {
+    fn drop(self) {
+        let Scope {
+            firmware: _,
+            structs: _,
+            layouts: _,
+            periphs: _,
+            globals: _,
+            funcs: _,
+            bodies: _,
+        } = self;
+    }
+}
+
 /// A function with its names. Each table has what the function has, in its order.
-#[derive(Drop)]
 pub struct FuncScope<'a> {
     /// The function.
     pub func: &'a Func,
@@ -56,4 +68,16 @@ pub struct FuncScope<'a> {
     pub ghost all_locals: { locals ≡ names_of (func_of func.now).locals },
     pub ghost all_labels: { labels ≡ labels_of (func_of func.now) },
     pub ghost number_is_word: { number ≡ U32 } by { Coded-set types.the_row.coded _ _ },
+}
+
+impl Drop for FuncScope<'_> {
+    fn drop(self) {
+        let FuncScope {
+            func: _,
+            registers: _,
+            locals: _,
+            labels: _,
+            number: _,
+        } = self;
+    }
 }

@@ -34,7 +34,6 @@ pub struct Field<'a> {
 }
 
 /// A struct that is laid out.
-#[derive(Drop)]
 pub struct StructLayout<'a> {
     /// Its declaration.
     pub declaration: &'a StructDecl,
@@ -50,12 +49,33 @@ pub struct StructLayout<'a> {
     pub names: Names<'a>,
 }
 
+impl Drop for StructLayout<'_> {
+    fn drop(self) {
+        let StructLayout {
+            declaration: _,
+            size: _,
+            align: _,
+            cells: _,
+            fields: _,
+            names: _,
+        } = self;
+    }
+}
+
 /// The layouts of structs, seen as the list of these structs. Each is laid out by those before it; a name means the first
 /// struct that has it, and a struct that is not there has no bytes.
-#[derive(Drop)]
 pub struct Layouts<'a> {
     pub(crate) names: Names<'a>,
     pub(crate) structs: Vec<StructLayout<'a>>,
+}
+
+impl Drop for Layouts<'_> {
+    fn drop(self) {
+        let Layouts {
+            names: _,
+            structs: _,
+        } = self;
+    }
 }
 
 impl<'a> Model for Layouts<'a> {

@@ -9,9 +9,14 @@ use crate::firmware::Firmware;
 use std::marker::Model;
 
 /// A firmware that is typed and within the limits of a text, seen as the firmware.
-#[derive(Drop)]
 pub struct Checked {
     firmware: Firmware,
+}
+
+impl Drop for Checked {
+    fn drop(self) {
+        let Checked { firmware: _ } = self;
+    }
 }
 
 impl Model for Checked {

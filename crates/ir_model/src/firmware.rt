@@ -1,11 +1,12 @@
 //! The parts of a firmware.
 
+ghost use Rattle.std.specs.Prelude.{◌≡◌};
+
 use crate::types::Ty;
 use base_lists::ListVec;
 use base_names::Name;
 
 /// A name with its type: a field, a parameter, a register or a local.
-#[derive(Drop)]
 pub struct Binding {
     /// Its name.
     pub name: Name,
@@ -13,8 +14,23 @@ pub struct Binding {
     pub ty: Ty,
 }
 
+impl Drop for Binding {
+    fn drop(self) {
+        let Binding { name: _, ty: _ } = self;
+    }
+}
+
+impl Binding {
+    /// The name and the type by themselves.
+    pub fn into_parts(self) -> (Name, Ty)
+        ensures { result ≡ (self.name, self.ty) }
+    {
+        let Binding { name, ty } = self;
+        (name, ty)
+    }
+}
+
 /// A struct.
-#[derive(Drop)]
 pub struct StructDecl {
     /// Its name.
     pub name: Name,
@@ -22,8 +38,13 @@ pub struct StructDecl {
     pub fields: ListVec<Binding>,
 }
 
+impl Drop for StructDecl {
+    fn drop(self) {
+        let StructDecl { name: _, fields: _ } = self;
+    }
+}
+
 /// A peripheral.
-#[derive(Drop)]
 pub struct Peripheral {
     /// Its name.
     pub name: Name,
@@ -31,6 +52,16 @@ pub struct Peripheral {
     pub base: u32,
     /// How many bytes its window has.
     pub size: u32,
+}
+
+impl Drop for Peripheral {
+    fn drop(self) {
+        let Peripheral {
+            name: _,
+            base: _,
+            size: _,
+        } = self;
+    }
 }
 
 /// The first value of a cell.
@@ -45,7 +76,6 @@ pub enum Cell {
 }
 
 /// A global.
-#[derive(Drop)]
 pub struct Global {
     /// Its name.
     pub name: Name,
@@ -55,6 +85,17 @@ pub struct Global {
     pub ty: Ty,
     /// The first values of its first cells.
     pub init: ListVec<Cell>,
+}
+
+impl Drop for Global {
+    fn drop(self) {
+        let Global {
+            name: _,
+            constant: _,
+            ty: _,
+            init: _,
+        } = self;
+    }
 }
 
 /// An operation on two numbers.
@@ -231,7 +272,6 @@ pub enum Term {
 }
 
 /// A block.
-#[derive(Drop)]
 pub struct Block {
     /// Its label.
     pub label: Name,
@@ -241,8 +281,17 @@ pub struct Block {
     pub term: Term,
 }
 
+impl Drop for Block {
+    fn drop(self) {
+        let Block {
+            label: _,
+            insts: _,
+            term: _,
+        } = self;
+    }
+}
+
 /// A function.
-#[derive(Drop)]
 pub struct Func {
     /// Its name.
     pub name: Name,
@@ -258,8 +307,20 @@ pub struct Func {
     pub blocks: ListVec<Block>,
 }
 
+impl Drop for Func {
+    fn drop(self) {
+        let Func {
+            name: _,
+            params: _,
+            result: _,
+            locals: _,
+            regs: _,
+            blocks: _,
+        } = self;
+    }
+}
+
 /// A file.
-#[derive(Drop)]
 pub struct FileDecl {
     /// Its name.
     pub name: Name,
@@ -267,8 +328,13 @@ pub struct FileDecl {
     pub funcs: ListVec<Func>,
 }
 
+impl Drop for FileDecl {
+    fn drop(self) {
+        let FileDecl { name: _, funcs: _ } = self;
+    }
+}
+
 /// A firmware.
-#[derive(Drop)]
 pub struct Firmware {
     /// Its structs in order.
     pub structs: ListVec<StructDecl>,
@@ -278,4 +344,15 @@ pub struct Firmware {
     pub globals: ListVec<Global>,
     /// Its files in order.
     pub files: ListVec<FileDecl>,
+}
+
+impl Drop for Firmware {
+    fn drop(self) {
+        let Firmware {
+            structs: _,
+            periphs: _,
+            globals: _,
+            files: _,
+        } = self;
+    }
 }

@@ -9,10 +9,15 @@ use std::alloc::{AllocError, Global};
 use std::marker::Model;
 
 /// Names in order, seen as a list, in which each is found at its first place.
-#[derive(Drop)]
 pub struct Names<'a> {
     all: Vec<&'a [u8]>,
     places: IndexMap<&'a [u8], usize>,
+}
+
+impl Drop for Names<'_> {
+    fn drop(self) {
+        let Names { all: _, places: _ } = self;
+    }
 }
 
 impl<'a> Model for Names<'a> {

@@ -161,7 +161,6 @@ pub enum Exit {
 }
 
 /// A block.
-#[derive(Drop)]
 pub struct Sequence<'a> {
     /// Its instructions in order.
     pub operations: ListVec<Operation<'a>>,
@@ -169,8 +168,16 @@ pub struct Sequence<'a> {
     pub exit: Exit,
 }
 
+impl Drop for Sequence<'_> {
+    fn drop(self) {
+        let Sequence {
+            operations: _,
+            exit: _,
+        } = self;
+    }
+}
+
 /// A global.
-#[derive(Drop)]
 pub struct Variable<'a> {
     /// Whether it is never written.
     pub constant: bool,
@@ -178,6 +185,16 @@ pub struct Variable<'a> {
     pub storage: Storage<'a>,
     /// What its first cells hold at first; those behind them hold 0 or null.
     pub init: ListVec<Value>,
+}
+
+impl Drop for Variable<'_> {
+    fn drop(self) {
+        let Variable {
+            constant: _,
+            storage: _,
+            init: _,
+        } = self;
+    }
 }
 
 /// A peripheral's window.
@@ -190,7 +207,6 @@ pub struct Span {
 }
 
 /// A function.
-#[derive(Drop)]
 pub struct Routine<'a> {
     /// The function as it was read.
     pub source: &'a Func,
@@ -202,8 +218,18 @@ pub struct Routine<'a> {
     pub blocks: ListVec<Sequence<'a>>,
 }
 
+impl Drop for Routine<'_> {
+    fn drop(self) {
+        let Routine {
+            source: _,
+            registers: _,
+            locals: _,
+            blocks: _,
+        } = self;
+    }
+}
+
 /// A firmware with numbers for its names.
-#[derive(Drop)]
 pub struct Program<'a> {
     /// The layouts of its structs.
     pub layouts: Layouts<'a>,
@@ -217,4 +243,17 @@ pub struct Program<'a> {
     pub files: ListVec<u32>,
     /// The number of `main`.
     pub main: u16,
+}
+
+impl Drop for Program<'_> {
+    fn drop(self) {
+        let Program {
+            layouts: _,
+            globals: _,
+            periphs: _,
+            funcs: _,
+            files: _,
+            main: _,
+        } = self;
+    }
 }

@@ -176,9 +176,10 @@ fn global_behind(
     requires { before < global_limit }
     ensures { ReadsBehind (grammar.spell_constant as_found constant) (λ x. global_of x.0) (grammar.spell_global as_found) (Expected.global_rest before) (Expected.Globals (before + 1) ∷ []) (placed text.now) (λ x. placed x.1.now) result }
 {
-    let (Binding { name, ty }, rest) = binding(alloc, None, text)?;
+    let (named, rest) = binding(alloc, None, text)?;
     let (init, rest) = init(alloc, before + 1, rest)?;
     let init = ListVec::new(init);
+    let (name, ty) = named.into_parts();
     Ok((
         GlobalDecl {
             name,

@@ -96,7 +96,7 @@ fn resolved(alloc: Global, firmware: &Firmware) -> Result<Program<'_>, AllocErro
         main,
     } = numbered(alloc, &scope, firmware, sources.as_slice())?;
     Ok(Program {
-        layouts: scope.layouts,
+        layouts: scope.into_layouts(),
         globals,
         periphs,
         funcs,

@@ -72,7 +72,7 @@ fn routine<'a>(
     let blocks = sequences(alloc, scope, &tables)?;
     Ok(Routine {
         source,
-        registers: tables.types,
+        registers: tables.into_types(),
         locals,
         blocks,
     })

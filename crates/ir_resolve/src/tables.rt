@@ -1,5 +1,7 @@
 //! The names of a firmware and of a function, as tables.
 
+ghost use Rattle.std.specs.Prelude.{◌≡◌};
+
 use base_lists::ListVec;
 use ir_layouts::table::Layouts;
 use ir_model::firmware::Func;
@@ -7,7 +9,6 @@ use ir_model::types::Ty;
 use ir_names::Names;
 
 /// The names of a firmware, and the layouts of its structs.
-#[derive(Drop)]
 pub(crate) struct Scope<'a> {
     pub(crate) layouts: Layouts<'a>,
     pub(crate) globals: Names<'a>,
@@ -15,12 +16,65 @@ pub(crate) struct Scope<'a> {
     pub(crate) funcs: Names<'a>,
 }
 
+impl Drop for Scope<'_> {
+    fn drop(self) {
+        let Scope {
+            layouts: _,
+            globals: _,
+            periphs: _,
+            funcs: _,
+        } = self;
+    }
+}
+
+impl<'a> Scope<'a> {
+    /// The layouts of the structs.
+    pub(crate) fn into_layouts(self) -> Layouts<'a>
+        ensures { result ≡ self.layouts }
+    {
+        let Scope {
+            layouts,
+            globals: _,
+            periphs: _,
+            funcs: _,
+        } = self;
+        layouts
+    }
+}
+
 /// The names of a function, and the types of its registers, the parameters first.
-#[derive(Drop)]
 pub(crate) struct FuncTables<'a> {
     pub(crate) source: &'a Func,
     pub(crate) registers: Names<'a>,
     pub(crate) types: ListVec<&'a Ty>,
     pub(crate) locals: Names<'a>,
     pub(crate) labels: Names<'a>,
+}
+
+impl Drop for FuncTables<'_> {
+    fn drop(self) {
+        let FuncTables {
+            source: _,
+            registers: _,
+            types: _,
+            locals: _,
+            labels: _,
+        } = self;
+    }
+}
+
+impl<'a> FuncTables<'a> {
+    /// The types of the registers.
+    pub(crate) fn into_types(self) -> ListVec<&'a Ty>
+        ensures { result ≡ self.types }
+    {
+        let FuncTables {
+            source: _,
+            registers: _,
+            types,
+            locals: _,
+            labels: _,
+        } = self;
+        types
+    }
 }

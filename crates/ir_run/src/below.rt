@@ -20,9 +20,14 @@ use std::alloc::{AllocError, Global};
 use std::marker::Model;
 
 /// Frames that wait at their calls, the one that called last first.
-#[derive(Drop)]
 pub struct Below {
     frames: Vec<Frame>,
+}
+
+impl Drop for Below {
+    fn drop(self) {
+        let Below { frames: _ } = self;
+    }
 }
 
 impl Model for Below {

@@ -59,9 +59,14 @@ impl Values {
 }
 
 /// The contents of objects, by their numbers.
-#[derive(Drop)]
 pub struct Contents {
     objects: Vec<Values>,
+}
+
+impl Drop for Contents {
+    fn drop(self) {
+        let Contents { objects: _ } = self;
+    }
 }
 
 impl Model for Contents {

@@ -3,7 +3,6 @@
 use crate::contents::{Contents, Values};
 
 /// A function that runs or waits for one that it called.
-#[derive(Drop)]
 pub struct Frame {
     /// Its number.
     pub func: u16,
@@ -17,4 +16,17 @@ pub struct Frame {
     pub regs: Values,
     /// What its locals hold.
     pub locals: Contents,
+}
+
+impl Drop for Frame {
+    fn drop(self) {
+        let Frame {
+            func: _,
+            block: _,
+            place: _,
+            number: _,
+            regs: _,
+            locals: _,
+        } = self;
+    }
 }

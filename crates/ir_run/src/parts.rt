@@ -6,7 +6,6 @@ use crate::frame::Frame;
 use machine_devices::tape::Tape;
 
 /// The state of a run that has not ended.
-#[derive(Drop)]
 pub struct Parts {
     /// The running frame.
     pub top: Frame,
@@ -18,4 +17,16 @@ pub struct Parts {
     pub tape: Tape,
     /// The number of the frame that was made last.
     pub newest: u64,
+}
+
+impl Drop for Parts {
+    fn drop(self) {
+        let Parts {
+            top: _,
+            below: _,
+            globals: _,
+            tape: _,
+            newest: _,
+        } = self;
+    }
 }

@@ -61,13 +61,24 @@ fn go_on(
 }
 
 /// A run of the source of a firmware on recorded device input, one instruction or block end a step.
-#[derive(Drop)]
 pub struct SourceRun<'a> {
     alloc: Global,
     program: &'a Program<'a>,
     compartments: ListVec<u32>,
     phase: Phase,
     taken: u64,
+}
+
+impl Drop for SourceRun<'_> {
+    fn drop(self) {
+        let SourceRun {
+            alloc: _,
+            program: _,
+            compartments: _,
+            phase: _,
+            taken: _,
+        } = self;
+    }
 }
 
 impl<'a> Model for SourceRun<'a> {

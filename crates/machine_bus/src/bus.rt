@@ -20,11 +20,20 @@ use std::marker::Model;
 
 /// A machine's memories and windows: flash and RAM hold bytes, and a window gives recorded words.
 /// No call but `new` takes memory.
-#[derive(Drop)]
 pub struct Bus {
     image: Image,
     ram: Vec<u8>,
     tape: Tape,
+}
+
+impl Drop for Bus {
+    fn drop(self) {
+        let Bus {
+            image: _,
+            ram: _,
+            tape: _,
+        } = self;
+    }
 }
 
 impl Model for Bus {

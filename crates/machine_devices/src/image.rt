@@ -6,7 +6,6 @@ use base_lists::ListVec;
 use std::alloc::{AllocError, Global};
 
 /// A peripheral's range of addresses. Its words are recorded input and its stores are events.
-#[derive(Drop)]
 pub struct Window {
     /// The peripheral's name.
     pub name: ListVec<u8>,
@@ -14,6 +13,16 @@ pub struct Window {
     pub base: u32,
     /// How many bytes.
     pub size: u32,
+}
+
+impl Drop for Window {
+    fn drop(self) {
+        let Window {
+            name: _,
+            base: _,
+            size: _,
+        } = self;
+    }
 }
 
 /// What a machine is started from: its memories, its windows, and the bytes of its flash.

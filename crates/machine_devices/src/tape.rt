@@ -82,9 +82,14 @@ impl Queue {
 }
 
 /// Recorded device input: the words that each window has left, in the order of the windows.
-#[derive(Drop)]
 pub struct Tape {
     queues: Vec<Queue>,
+}
+
+impl Drop for Tape {
+    fn drop(self) {
+        let Tape { queues: _ } = self;
+    }
 }
 
 impl Model for Tape {

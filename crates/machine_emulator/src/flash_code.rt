@@ -20,12 +20,20 @@ pub struct Decoded {
 }
 
 /// What is decoded from each halfword of flash on.
-#[derive(Drop)]
 pub struct FlashCode {
     /// The first address of flash.
     pub base: u32,
     /// One for each halfword but the last, none where no instruction begins; empty where the memory for them was refused.
     pub instructions: Vec<Option<Decoded>>,
+}
+
+impl Drop for FlashCode {
+    fn drop(self) {
+        let FlashCode {
+            base: _,
+            instructions: _,
+        } = self;
+    }
 }
 
 /// The instruction that begins at a place of flash.

@@ -50,10 +50,15 @@ pub enum Step {
 }
 
 /// A machine. Only `start` takes memory.
-#[derive(Drop)]
 pub struct Machine {
     parts: Parts,
     code: FlashCode,
+}
+
+impl Drop for Machine {
+    fn drop(self) {
+        let Machine { parts: _, code: _ } = self;
+    }
 }
 
 impl Model for Machine {

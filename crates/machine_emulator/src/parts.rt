@@ -10,7 +10,6 @@ use machine_bus::bus::Bus;
 use machine_model::state::{CoreRegisters, End, FaultStatus, StopReason};
 
 /// What a machine is made of. Each function that acts on it answers the event that it makes, if it makes one.
-#[derive(Drop)]
 pub struct Parts {
     /// Memory and windows.
     pub bus: Bus,
@@ -22,6 +21,18 @@ pub struct Parts {
     pub status: FaultStatus,
     /// How the machine ended, if it has.
     pub ending: Option<End>,
+}
+
+impl Drop for Parts {
+    fn drop(self) {
+        let Parts {
+            bus: _,
+            core: _,
+            protection: _,
+            status: _,
+            ending: _,
+        } = self;
+    }
 }
 
 impl Parts {

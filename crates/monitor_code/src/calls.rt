@@ -19,7 +19,6 @@ use monitor_steps::PrivilegedStep;
 use std::alloc::{AllocError, Global};
 
 /// The three lists.
-#[derive(Drop)]
 pub(crate) struct Lists {
     /// Start-up.
     pub(crate) start: Vec<PrivilegedStep>,
@@ -27,6 +26,16 @@ pub(crate) struct Lists {
     pub(crate) svc: Vec<PrivilegedStep>,
     /// The handler of MemManage.
     pub(crate) memfault: Vec<PrivilegedStep>,
+}
+
+impl Drop for Lists {
+    fn drop(self) {
+        let Lists {
+            start: _,
+            svc: _,
+            memfault: _,
+        } = self;
+    }
 }
 
 /// The three lists by what they take of the tables.

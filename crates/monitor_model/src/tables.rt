@@ -5,7 +5,6 @@ use machine_protection::region::Region;
 use plan_model::Spot;
 
 /// What a compartment may reach.
-#[derive(Drop)]
 pub struct CompRecord {
     /// Region 2: the compartment's code.
     pub code: Region,
@@ -15,6 +14,17 @@ pub struct CompRecord {
     pub mask: u32,
     /// Bit n is set where the compartment may read lendable local n. 0 on an open board.
     pub reads: u32,
+}
+
+impl Drop for CompRecord {
+    fn drop(self) {
+        let CompRecord {
+            code: _,
+            slots: _,
+            mask: _,
+            reads: _,
+        } = self;
+    }
 }
 
 /// A place of a call that may go to another compartment.
@@ -49,7 +59,6 @@ pub struct InitRecord {
 }
 
 /// The tables. Addresses are absolute.
-#[derive(Drop)]
 pub struct Tables {
     /// The first address of the tables' block, which begins with the vectors and the monitor's code.
     pub base: u32,
@@ -75,4 +84,23 @@ pub struct Tables {
     pub main_comp: u32,
     /// Whether the board is closed.
     pub closed: bool,
+}
+
+impl Drop for Tables {
+    fn drop(self) {
+        let Tables {
+            base: _,
+            comps: _,
+            sites: _,
+            targets: _,
+            lends: _,
+            inits: _,
+            words: _,
+            stack: _,
+            monitor: _,
+            main: _,
+            main_comp: _,
+            closed: _,
+        } = self;
+    }
 }

@@ -8,11 +8,20 @@ use std::alloc::{AllocError, Global};
 use std::marker::Model;
 
 /// Groups of items, seen as the numbers of items that they have. Items are numbered through, those of the first group first.
-#[derive(Drop)]
 pub struct Groups {
     counts: Vec<u32>,
     starts: Vec<u32>,
     total: u32,
+}
+
+impl Drop for Groups {
+    fn drop(self) {
+        let Groups {
+            counts: _,
+            starts: _,
+            total: _,
+        } = self;
+    }
 }
 
 impl Model for Groups {

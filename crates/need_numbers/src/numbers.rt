@@ -8,10 +8,18 @@ use std::alloc::{AllocError, Global};
 use std::marker::Model;
 
 /// A list of numbers, in stretches of 256. Where eight and more follow one another they take less than two bytes each.
-#[derive(Drop)]
 pub struct Numbers {
     alloc: Global,
     stretches: Vec<Stretch>,
+}
+
+impl Drop for Numbers {
+    fn drop(self) {
+        let Numbers {
+            alloc: _,
+            stretches: _,
+        } = self;
+    }
 }
 
 impl Model for Numbers {

@@ -10,12 +10,22 @@ use std::alloc::{AllocError, Global};
 use std::marker::Model;
 
 /// A list without repeats. Where it is long, each of its numbers has a bit.
-#[derive(Drop)]
 pub(crate) struct Row {
     alloc: Global,
     numbers: Numbers,
     words: Vec<u64>,
     count: u32,
+}
+
+impl Drop for Row {
+    fn drop(self) {
+        let Row {
+            alloc: _,
+            numbers: _,
+            words: _,
+            count: _,
+        } = self;
+    }
 }
 
 impl Model for Row {

@@ -9,9 +9,14 @@ use std::alloc::{AllocError, Global};
 use std::marker::Model;
 
 /// Lists of numbers without repeats, by the numbers of the lists. An item of a long list is found by its bit.
-#[derive(Drop)]
 pub struct Rows {
     rows: Vec<Row>,
+}
+
+impl Drop for Rows {
+    fn drop(self) {
+        let Rows { rows: _ } = self;
+    }
 }
 
 impl Model for Rows {

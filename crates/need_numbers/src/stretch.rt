@@ -12,11 +12,20 @@ use std::marker::Model;
 const RUNS: usize = 32;
 
 /// Numbers in their order. Those at the beginning are in runs, of which each takes no more memory than two numbers.
-#[derive(Drop)]
 pub(crate) struct Stretch {
     runs: Vec<Run>,
     others: Vec<u32>,
     count: u32,
+}
+
+impl Drop for Stretch {
+    fn drop(self) {
+        let Stretch {
+            runs: _,
+            others: _,
+            count: _,
+        } = self;
+    }
 }
 
 impl Model for Stretch {

@@ -14,7 +14,6 @@ use std::alloc::{AllocError, Global};
 
 /// How nodes and objects are numbered: objects in their order, and nodes with the registers of all functions first, then
 /// the contents of the objects, then the results of the functions.
-#[derive(Drop)]
 pub struct Numbering {
     /// How many functions there are.
     pub funcs: u32,
@@ -22,6 +21,16 @@ pub struct Numbering {
     pub objects: Groups,
     /// The nodes in groups: the registers of each function, contents, results.
     pub nodes: Groups,
+}
+
+impl Drop for Numbering {
+    fn drop(self) {
+        let Numbering {
+            funcs: _,
+            objects: _,
+            nodes: _,
+        } = self;
+    }
 }
 
 impl Numbering {

@@ -19,10 +19,18 @@ use std::marker::Model;
 use std::sync::ledger::Ledger;
 
 /// Pairs of a node and an object, by their numbers: for each node the list of its objects, in the order in which they came.
-#[derive(Drop)]
 pub struct Pairs {
     rows: Rows,
     objects: u32,
+}
+
+impl Drop for Pairs {
+    fn drop(self) {
+        let Pairs {
+            rows: _,
+            objects: _,
+        } = self;
+    }
 }
 
 impl Model for Pairs {

@@ -14,10 +14,18 @@ use ir_model::object::ObjId;
 use std::marker::Model;
 
 /// A set of objects for each node.
-#[derive(Drop)]
 pub struct PointsTo {
     numbering: Numbering,
     rows: SharedRows,
+}
+
+impl Drop for PointsTo {
+    fn drop(self) {
+        let PointsTo {
+            numbering: _,
+            rows: _,
+        } = self;
+    }
 }
 
 impl Model for PointsTo {

@@ -52,7 +52,6 @@ pub enum Trigger<'a> {
 }
 
 /// What is asked of sets of objects.
-#[derive(Drop)]
 pub struct Rules<'a> {
     /// Pairs that are there.
     pub facts: Vec<Pair>,
@@ -60,4 +59,14 @@ pub struct Rules<'a> {
     pub copies: Vec<Edge>,
     /// What is asked for each object of a node.
     pub triggers: Vec<Vec<Trigger<'a>>>,
+}
+
+impl Drop for Rules<'_> {
+    fn drop(self) {
+        let Rules {
+            facts: _,
+            copies: _,
+            triggers: _,
+        } = self;
+    }
 }

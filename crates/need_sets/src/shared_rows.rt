@@ -12,11 +12,20 @@ use std::marker::Model;
 const KNOWN: usize = 1024;
 
 /// A list of objects for each row. Equal lists are kept once, where the other came not long ago.
-#[derive(Drop)]
 pub struct SharedRows {
     lists: Vec<ListVec<ObjId>>,
     numbers: Vec<u32>,
     known: Vec<u32>,
+}
+
+impl Drop for SharedRows {
+    fn drop(self) {
+        let SharedRows {
+            lists: _,
+            numbers: _,
+            known: _,
+        } = self;
+    }
 }
 
 impl Model for SharedRows {

@@ -9,10 +9,18 @@ use std::marker::Model;
 
 /// Pairs whose nodes and objects are lists of their own. Many of one node with objects that follow one another, or of one object with such
 /// nodes, take little memory.
-#[derive(Drop)]
 pub(crate) struct Columns {
     nodes: Numbers,
     objects: Numbers,
+}
+
+impl Drop for Columns {
+    fn drop(self) {
+        let Columns {
+            nodes: _,
+            objects: _,
+        } = self;
+    }
 }
 
 impl Model for Columns {

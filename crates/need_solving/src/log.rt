@@ -12,10 +12,18 @@ const FIRST: usize = 4_096;
 
 /// Pairs in the order in which they were found. The first 4,096 stand by themselves, of eight bytes each; those behind them are in columns, where
 /// many take less memory.
-#[derive(Drop)]
 pub(crate) struct Log {
     first: Vec<Pair>,
     others: Columns,
+}
+
+impl Drop for Log {
+    fn drop(self) {
+        let Log {
+            first: _,
+            others: _,
+        } = self;
+    }
 }
 
 impl Model for Log {

@@ -298,11 +298,5 @@ pub fn least_pairs<L: Ledger>(
         pass_on(system, &mut state, pair, steps)?;
         fire(system, &mut state, pair, steps)?;
     }
-    let State {
-        pairs,
-        edges: _,
-        log: _,
-        next: _,
-    } = state;
-    Ok(pairs)
+    Ok(state.into_pairs())
 }

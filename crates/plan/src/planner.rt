@@ -23,7 +23,6 @@ use plan_sizes::sizes;
 use std::alloc::{AllocError, Global};
 
 /// A firmware that is planned for a board.
-#[derive(Drop)]
 pub struct PlannedFirmware {
     /// The graph of its compartments that the protection unit can hold.
     pub graph: Final,
@@ -31,6 +30,16 @@ pub struct PlannedFirmware {
     pub sizes: Sizes,
     /// Where the blocks of its image lie.
     pub plan: Plan,
+}
+
+impl Drop for PlannedFirmware {
+    fn drop(self) {
+        let PlannedFirmware {
+            graph: _,
+            sizes: _,
+            plan: _,
+        } = self;
+    }
 }
 
 /// The final graph of the compartments of a firmware.

@@ -7,7 +7,6 @@ use plan_model::groups::Groups;
 use plan_model::needs::Needs;
 
 /// What a firmware is analysed to: its program of numbers, what its functions need on a kind of board, and the compartments of a policy.
-#[derive(Drop)]
 pub struct Analysis<'a> {
     /// The firmware with numbers for its names.
     pub program: Program<'a>,
@@ -19,4 +18,30 @@ pub struct Analysis<'a> {
     pub ghost each_need: { length needs.funcs ≡ length program.funcs },
     /// There is a compartment for each function.
     pub ghost each_group: { length groups.of ≡ length needs.funcs },
+}
+
+impl Drop for Analysis<'_> {
+    fn drop(self) {
+        let Analysis {
+            program: _,
+            needs: _,
+            groups: _,
+        } = self;
+    }
+}
+
+impl<'a> Analysis<'a> {
+    /// The program, the needs and the compartments by themselves.
+    pub fn into_parts(self) -> (Program<'a>, Needs, Groups)
+        ensures program { result.0 ≡ self.program }
+        ensures needs { result.1 ≡ self.needs }
+        ensures groups { result.2 ≡ self.groups }
+    {
+        let Analysis {
+            program,
+            needs,
+            groups,
+        } = self;
+        (program, needs, groups)
+    }
 }

@@ -12,7 +12,6 @@ use plan_model::graph::DataRegion;
 use std::alloc::{AllocError, Global};
 
 /// What the cost of a region's joins depends on.
-#[derive(Drop)]
 pub(crate) struct Known {
     /// The bytes of its globals together.
     pub(crate) size: u64,
@@ -24,6 +23,18 @@ pub(crate) struct Known {
     pub(crate) writes: ListVec<bool>,
     /// Which compartments write or read it.
     pub(crate) uses: ListVec<bool>,
+}
+
+impl Drop for Known {
+    fn drop(self) {
+        let Known {
+            size: _,
+            writers: _,
+            users: _,
+            writes: _,
+            uses: _,
+        } = self;
+    }
 }
 
 /// The bytes of a global.

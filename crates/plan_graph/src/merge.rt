@@ -28,13 +28,5 @@ pub fn merge(
 {
     let mut merging = begun(alloc, program, graph)?;
     while merging.join(alloc, slots)? {}
-    let graph = merging.graph;
-    Ok(Final {
-        groups: graph.groups,
-        regions: graph.regions,
-        unwritten: graph.unwritten,
-        covers: graph.covers,
-        masks: graph.masks,
-        reads: graph.reads,
-    })
+    Ok(merging.into_graph().into_final())
 }

@@ -21,7 +21,6 @@ use std::alloc::{AllocError, Global};
 use std::mem::replace;
 
 /// A graph that is being merged, with what is known of its data regions, so that no join computes it anew.
-#[derive(Drop)]
 pub(crate) struct Merging<'a, 'b> {
     /// The firmware.
     pub(crate) program: &'a Program<'b>,
@@ -33,6 +32,18 @@ pub(crate) struct Merging<'a, 'b> {
     pub(crate) costs: Vec<ListVec<u64>>,
     /// The number of each data region of the graph among these.
     pub(crate) numbers: Vec<usize>,
+}
+
+impl Drop for Merging<'_, '_> {
+    fn drop(self) {
+        let Merging {
+            program: _,
+            graph: _,
+            known: _,
+            costs: _,
+            numbers: _,
+        } = self;
+    }
 }
 
 /// What the joins of a known region with the earlier ones and itself cost.
@@ -120,6 +131,20 @@ pub(crate) fn begun<'a, 'b>(
 }
 
 impl Merging<'_, '_> {
+    /// The graph after the joins that were made.
+    pub(crate) fn into_graph(self) -> Graph
+        ensures { result ≡ self.graph }
+    {
+        let Merging {
+            program: _,
+            graph,
+            known: _,
+            costs: _,
+            numbers: _,
+        } = self;
+        graph
+    }
+
     /// What the join of two data regions costs.
     fn cost(&self, first: usize, second: usize) -> u64
         requires merging { IsMerging self.now }

@@ -14,12 +14,20 @@ use plan_model::needs::Needs;
 use std::alloc::{AllocError, Global};
 
 /// The compartments that reach a global, in rising order.
-#[derive(Drop)]
 pub(crate) struct UserLists {
     /// Those that may write it.
     pub(crate) writers: Vec<u32>,
     /// On a closed board those that may read it.
     pub(crate) readers: Vec<u32>,
+}
+
+impl Drop for UserLists {
+    fn drop(self) {
+        let UserLists {
+            writers: _,
+            readers: _,
+        } = self;
+    }
 }
 
 fn writers(

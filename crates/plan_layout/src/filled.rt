@@ -19,7 +19,6 @@ pub(crate) struct Located {
 }
 
 /// RAM with some blocks.
-#[derive(Drop)]
 pub(crate) struct Filled {
     /// The bytes of the blocks outside tails.
     pub(crate) used: u32,
@@ -27,6 +26,16 @@ pub(crate) struct Filled {
     pub(crate) tails: Vec<Tail>,
     /// The blocks.
     pub(crate) blocks: Vec<Located>,
+}
+
+impl Drop for Filled {
+    fn drop(self) {
+        let Filled {
+            used: _,
+            tails: _,
+            blocks: _,
+        } = self;
+    }
 }
 
 /// A tail behind others, if there is one.

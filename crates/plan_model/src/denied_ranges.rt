@@ -15,7 +15,6 @@ pub const FIRST_DEVICE: u32 = 0x4000_0000;
 pub const DEVICE_END: u32 = 0x6000_0000;
 
 /// A range of addresses of devices that no compartment may ever reach.
-#[derive(Drop)]
 pub struct Denied {
     /// Its name.
     pub name: Name,
@@ -23,6 +22,16 @@ pub struct Denied {
     pub base: u32,
     /// How many bytes, 1 or more.
     pub size: u32,
+}
+
+impl Drop for Denied {
+    fn drop(self) {
+        let Denied {
+            name: _,
+            base: _,
+            size: _,
+        } = self;
+    }
 }
 
 /// Whether a range of `size` bytes from `base` on has an address in common with a denied one.

@@ -1,10 +1,11 @@
 //! The graph of compartments and regions: who writes and reads which globals, and which peripherals each compartment has.
 
+ghost use Rattle.std.specs.Prelude.{◌≡◌};
+
 use crate::groups::Groups;
 use base_lists::ListVec;
 
 /// Globals that lie together in one block, because the same compartments reach them. Each list is in rising order.
-#[derive(Drop)]
 pub struct DataRegion {
     /// The numbers of the globals.
     pub globals: ListVec<u32>,
@@ -12,6 +13,16 @@ pub struct DataRegion {
     pub writers: ListVec<u32>,
     /// The compartments that may read them on a closed board; on an open board there are none.
     pub readers: ListVec<u32>,
+}
+
+impl Drop for DataRegion {
+    fn drop(self) {
+        let DataRegion {
+            globals: _,
+            writers: _,
+            readers: _,
+        } = self;
+    }
 }
 
 /// A range of addresses that holds windows of peripherals: a power of two of bytes, from a multiple of that on.
@@ -24,7 +35,6 @@ pub struct Cover {
 }
 
 /// Which compartment reaches what.
-#[derive(Drop)]
 pub struct Graph {
     /// The compartments.
     pub groups: Groups,
@@ -40,8 +50,44 @@ pub struct Graph {
     pub reads: ListVec<u32>,
 }
 
+impl Drop for Graph {
+    fn drop(self) {
+        let Graph {
+            groups: _,
+            regions: _,
+            unwritten: _,
+            covers: _,
+            masks: _,
+            reads: _,
+        } = self;
+    }
+}
+
+impl Graph {
+    /// The same as the last graph of all joins.
+    pub fn into_final(self) -> Final
+        ensures { result ≡ record { groups = self.groups; regions = self.regions; unwritten = self.unwritten; covers = self.covers; masks = self.masks; reads = self.reads } }
+    {
+        let Graph {
+            groups,
+            regions,
+            unwritten,
+            covers,
+            masks,
+            reads,
+        } = self;
+        Final {
+            groups,
+            regions,
+            unwritten,
+            covers,
+            masks,
+            reads,
+        }
+    }
+}
+
 /// A graph in which no compartment has more data regions and covers than the protection unit has slots.
-#[derive(Drop)]
 pub struct Final {
     /// The compartments.
     pub groups: Groups,
@@ -55,4 +101,17 @@ pub struct Final {
     pub masks: ListVec<u32>,
     /// The read mask of each compartment: bit i is set where it may read lendable local i. 0 on an open board.
     pub reads: ListVec<u32>,
+}
+
+impl Drop for Final {
+    fn drop(self) {
+        let Final {
+            groups: _,
+            regions: _,
+            unwritten: _,
+            covers: _,
+            masks: _,
+            reads: _,
+        } = self;
+    }
 }

@@ -4,7 +4,6 @@ use base_lists::ListVec;
 use base_names::Name;
 
 /// What a policy knows of a function.
-#[derive(Drop)]
 pub struct FuncFacts {
     /// Its number.
     pub index: u32,
@@ -16,6 +15,18 @@ pub struct FuncFacts {
     pub periphs: ListVec<u32>,
     /// The other functions that may call it, in rising order.
     pub callers: ListVec<u32>,
+}
+
+impl Drop for FuncFacts {
+    fn drop(self) {
+        let FuncFacts {
+            index: _,
+            name: _,
+            file: _,
+            periphs: _,
+            callers: _,
+        } = self;
+    }
 }
 
 /// The compartments of a firmware.

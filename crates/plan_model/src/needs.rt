@@ -4,7 +4,6 @@ use base_lists::ListVec;
 use ir_model::object::ObjId;
 
 /// What a function may reach by its own instructions. Each list is in rising order, without repeats.
-#[derive(Drop)]
 pub struct FuncNeed {
     /// The objects that its stores may write: globals that are not constant, peripherals and locals.
     pub written: ListVec<ObjId>,
@@ -16,8 +15,18 @@ pub struct FuncNeed {
     pub callees: ListVec<u32>,
 }
 
+impl Drop for FuncNeed {
+    fn drop(self) {
+        let FuncNeed {
+            written: _,
+            read: _,
+            periphs: _,
+            callees: _,
+        } = self;
+    }
+}
+
 /// A call or an indirect call.
-#[derive(Drop)]
 pub struct SiteNeed {
     /// The function in which it stands.
     pub func: u32,
@@ -29,8 +38,18 @@ pub struct SiteNeed {
     pub targets: ListVec<u32>,
 }
 
+impl Drop for SiteNeed {
+    fn drop(self) {
+        let SiteNeed {
+            func: _,
+            block: _,
+            inst: _,
+            targets: _,
+        } = self;
+    }
+}
+
 /// What the functions of a firmware may reach.
-#[derive(Drop)]
 pub struct Needs {
     /// What each function may reach.
     pub funcs: ListVec<FuncNeed>,
@@ -40,4 +59,15 @@ pub struct Needs {
     pub lendable: ListVec<(u32, u32)>,
     /// Whether they are the needs of a closed board, on which loads are confined as stores are.
     pub closed: bool,
+}
+
+impl Drop for Needs {
+    fn drop(self) {
+        let Needs {
+            funcs: _,
+            sites: _,
+            lendable: _,
+            closed: _,
+        } = self;
+    }
 }

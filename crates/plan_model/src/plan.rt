@@ -25,7 +25,6 @@ pub enum Lowest {
 }
 
 /// The memories of a board, its protection unit, and what no compartment may reach.
-#[derive(Drop)]
 pub struct Board {
     /// The first address of flash.
     pub flash_base: u32,
@@ -47,6 +46,22 @@ pub struct Board {
     pub denied: ListVec<Denied>,
 }
 
+impl Drop for Board {
+    fn drop(self) {
+        let Board {
+            flash_base: _,
+            flash_size: _,
+            ram_base: _,
+            ram_size: _,
+            stack: _,
+            lowest: _,
+            regions: _,
+            closed: _,
+            denied: _,
+        } = self;
+    }
+}
+
 impl Board {
     /// How many slots its protection unit has: the regions beyond the first four.
     pub fn slots(&self) -> u32
@@ -59,7 +74,6 @@ impl Board {
 }
 
 /// How much is to be placed in flash, in bytes.
-#[derive(Drop)]
 pub struct Sizes {
     /// The code of each compartment.
     pub code: ListVec<u32>,
@@ -67,8 +81,13 @@ pub struct Sizes {
     pub tables: u32,
 }
 
+impl Drop for Sizes {
+    fn drop(self) {
+        let Sizes { code: _, tables: _ } = self;
+    }
+}
+
 /// Where the blocks of an image lie.
-#[derive(Drop)]
 pub struct Plan {
     /// The vectors, the monitor's code and its tables, in flash.
     pub tables: Spot,
@@ -82,4 +101,17 @@ pub struct Plan {
     pub regions: ListVec<Spot>,
     /// The globals of no data region, in RAM, where there are any.
     pub unwritten: Option<Spot>,
+}
+
+impl Drop for Plan {
+    fn drop(self) {
+        let Plan {
+            tables: _,
+            code: _,
+            stack: _,
+            monitor: _,
+            regions: _,
+            unwritten: _,
+        } = self;
+    }
 }
