@@ -28,18 +28,10 @@ pub type Tys = ListVec<Ty>;
 
 /// What a function takes and gives.
 #[cycle(types)]
+#[derive(Drop)]
 pub struct Signature {
     /// The parameters' types.
     pub params: Tys,
     /// The result's type, where there is one.
     pub result: Option<Box<Ty>>,
-}
-
-impl Drop for Signature {
-    fn drop(self) {
-        let Signature {
-            params: _,
-            result: _,
-        } = self;
-    }
 }
