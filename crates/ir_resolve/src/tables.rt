@@ -30,7 +30,7 @@ impl Drop for Scope<'_> {
 impl<'a> Scope<'a> {
     /// The layouts of the structs.
     pub(crate) fn into_layouts(self) -> Layouts<'a>
-        ensures { result ≡ self.layouts }
+        ensures { result ≡ self.entry.layouts }
     {
         let Scope {
             layouts,
@@ -66,7 +66,7 @@ impl Drop for FuncTables<'_> {
 impl<'a> FuncTables<'a> {
     /// The types of the registers.
     pub(crate) fn into_types(self) -> ListVec<&'a Ty>
-        ensures { result ≡ self.types }
+        ensures { result ≡ self.entry.types }
     {
         let FuncTables {
             source: _,

@@ -33,9 +33,9 @@ impl Drop for Analysis<'_> {
 impl<'a> Analysis<'a> {
     /// The program, the needs and the compartments by themselves.
     pub fn into_parts(self) -> (Program<'a>, Needs, Groups)
-        ensures program { result.0 ≡ self.program }
-        ensures needs { result.1 ≡ self.needs }
-        ensures groups { result.2 ≡ self.groups }
+        ensures program { result.0 ≡ self.entry.program }
+        ensures needs { result.1 ≡ self.entry.needs }
+        ensures groups { result.2 ≡ self.entry.groups }
     {
         let Analysis {
             program,

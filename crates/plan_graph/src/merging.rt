@@ -133,7 +133,7 @@ pub(crate) fn begun<'a, 'b>(
 impl Merging<'_, '_> {
     /// The graph after the joins that were made.
     pub(crate) fn into_graph(self) -> Graph
-        ensures { result ≡ self.graph }
+        ensures { result ≡ self.entry.graph }
     {
         let Merging {
             program: _,
