@@ -5,7 +5,7 @@ ghost use Rattle.ir_program.specs.Seen.{HasCounts};
 
 use crate::boards::board_line;
 use crate::function_needs::put_needs;
-use crate::graphs::{put_graph, put_limit};
+use crate::graphs::{GraphParts, parts_of_first, parts_of_last, put_graph, put_limit};
 use crate::sets::put_sets;
 use anyhow::{Result, bail};
 use base_outside::{MemFiles, MemSink, Sink, read_whole};
@@ -16,11 +16,10 @@ use ir_program::program::Program;
 use ir_resolve::resolving::resolve;
 use need_points_to::solve;
 use need_sets::PointsTo;
-use plan_firmwares::{Analysis as Analysed, analyse};
+use plan_firmwares::analyse;
 use plan_graph::initial::initial;
 use plan_graph::merge::merge;
 use plan_model::Policy;
-use plan_model::graph::{Final, Graph};
 use plan_model::groups::Groups;
 use plan_model::needs::Needs;
 use std::alloc::Global;
@@ -86,11 +85,7 @@ fn analysed(alloc: Global, firmware: &Checked, words: &[String]) -> Result<Strin
     }
     let closed = words[3].as_str() == "closed";
     let made = analyse(alloc, firmware, policy_of(words[2].as_str()), closed)?;
-    let Analysed {
-        program,
-        needs,
-        groups,
-    } = made;
+    let (program, needs, groups) = made.into_parts();
     by_parts(alloc, &program, &needs, groups, words)
 }
 
@@ -142,7 +137,7 @@ fn limit_text(alloc: Global, needs: &Needs, groups: &Groups) -> Result<String> {
     Ok(text)
 }
 
-fn graph_text(alloc: Global, graph: &Graph) -> Result<String> {
+fn graph_text(alloc: Global, graph: &GraphParts) -> Result<String> {
     let mut text = String::new(alloc);
     put_graph(alloc, &mut text, graph)?;
     Ok(text)
@@ -160,20 +155,8 @@ fn by_graph(
 {
     let graph = initial(alloc, program, needs, groups)?;
     if slots < 2 {
-        return graph_text(alloc, &graph);
+        return graph_text(alloc, &parts_of_first(&graph));
     }
     let last = merge(alloc, program, graph, slots)?;
-    merged_text(alloc, last)
-}
-
-fn merged_text(alloc: Global, last: Final) -> Result<String> {
-    let graph = Graph {
-        groups: last.groups,
-        regions: last.regions,
-        unwritten: last.unwritten,
-        covers: last.covers,
-        masks: last.masks,
-        reads: last.reads,
-    };
-    graph_text(alloc, &graph)
+    graph_text(alloc, &parts_of_last(&last))
 }

@@ -2,7 +2,8 @@
 
 use crate::function_needs::put_numbers;
 use anyhow::Result;
-use plan_model::graph::{Cover, DataRegion, Graph};
+use base_lists::ListVec;
+use plan_model::graph::{Cover, DataRegion, Final, Graph};
 use plan_model::groups::Groups;
 use plan_model::limits::LimitKind;
 use plan_model::needs::Needs;
@@ -28,19 +29,58 @@ fn put_covers(
     Ok(())
 }
 
+/// The parts of a graph, before its joins or behind them.
+#[derive(Drop)]
+pub(crate) struct GraphParts<'a> {
+    groups: &'a [u32],
+    regions: &'a [DataRegion],
+    unwritten: &'a [u32],
+    covers: &'a [ListVec<Cover>],
+    masks: &'a [u32],
+    reads: &'a [u32],
+}
+
+/// The parts of a graph before any join.
+pub(crate) fn parts_of_first(graph: &Graph) -> GraphParts<'_> {
+    GraphParts {
+        groups: graph.groups.of.as_slice(),
+        regions: graph.regions.as_slice(),
+        unwritten: graph.unwritten.as_slice(),
+        covers: graph.covers.as_slice(),
+        masks: graph.masks.as_slice(),
+        reads: graph.reads.as_slice(),
+    }
+}
+
+/// The parts of a graph behind all joins.
+pub(crate) fn parts_of_last(graph: &Final) -> GraphParts<'_> {
+    GraphParts {
+        groups: graph.groups.of.as_slice(),
+        regions: graph.regions.as_slice(),
+        unwritten: graph.unwritten.as_slice(),
+        covers: graph.covers.as_slice(),
+        masks: graph.masks.as_slice(),
+        reads: graph.reads.as_slice(),
+    }
+}
+
 /// Puts the compartments of functions, the data regions, the globals of none, the covers and the masks.
-pub(crate) fn put_graph(alloc: Global, text: &mut String, graph: &Graph) -> Result<()> {
-    put_numbers(alloc, text, "groups", graph.groups.of.as_slice())?;
-    for region in graph.regions.as_slice() {
+pub(crate) fn put_graph(alloc: Global, text: &mut String, graph: &GraphParts) -> Result<()> {
+    put_numbers(alloc, text, "groups", graph.groups)?;
+    for region in graph.regions {
         put_region(alloc, text, region)?;
     }
-    put_numbers(alloc, text, "unwritten", graph.unwritten.as_slice())?;
-    let covers = graph.covers.as_slice();
-    for compartment in 0..covers.len() {
-        put_covers(alloc, text, compartment, covers[compartment].as_slice())?;
+    put_numbers(alloc, text, "unwritten", graph.unwritten)?;
+    for compartment in 0..graph.covers.len() {
+        put_covers(
+            alloc,
+            text,
+            compartment,
+            graph.covers[compartment].as_slice(),
+        )?;
     }
-    put_numbers(alloc, text, "masks", graph.masks.as_slice())?;
-    put_numbers(alloc, text, "reads", graph.reads.as_slice())
+    put_numbers(alloc, text, "masks", graph.masks)?;
+    put_numbers(alloc, text, "reads", graph.reads)
 }
 
 /// Puts the first limit that is passed, if there is one.

@@ -1,5 +1,6 @@
-use Rattle.std.proofs.Common.{◌≡◌, ◌<◌, ◌≤◌, ◌+◌, ℕ, None, length, subst, sym, ap, ◌∙◌}
+use Rattle.std.proofs.Common.{◌≡◌, ◌<◌, ◌≤◌, ◌+◌, ℕ, None, [], get_or, length, subst, sym, ap, ◌∙◌}
 use Rattle.ir_program.specs.Seen.{program_of}
+use Rattle.plan_model.specs.declared.graph.Final.{Final}
 use Rattle.plan_model.specs.declared.graph.Graph.{Graph}
 use Rattle.plan_model.specs.FinalGraph.{Merges, stays}
 use Rattle.plan_model.specs.Merging.{next, covers_at}
@@ -32,4 +33,5 @@ returns-clause-few c =
     let before = c.loop-merging.merging in
     let step = subst (λ b. CameTo b (next (program_of before.program.now) c.args.slots before.graph) before.graph c.join.new.self.graph) c.if-branch.false c.in_ok-join.ensures.graph in
     let ended : next (program_of c.args.program.now) c.args.slots before.graph ≡ None = ap (λ q. next (program_of q) c.args.slots before.graph) (sym c.loop-merging.invariant.program) ∙ step.0 in
-    subst (λ (h : Graph). (k : ℕ) → k < h.groups.count → length (regions_used h.regions k) + length (covers_at h k) ≤ c.args.slots) (sym step.1) (few_parts (program_of c.args.program.now) c.args.slots before.graph c.requires ended)
+    let few = subst (λ (h : Graph). (k : ℕ) → k < h.groups.count → length (regions_used h.regions k) + length (covers_at h k) ≤ c.args.slots) (sym (c.into_graph.ensures ∙ step.1)) (few_parts (program_of c.args.program.now) c.args.slots before.graph c.requires ended) in
+    subst (λ (last : Final). (k : ℕ) → k < last.groups.count → length (regions_used last.regions k) + length (get_or last.covers k []) ≤ c.args.slots) (sym c.into_final.ensures) few
