@@ -36,6 +36,7 @@ impl<'a> Analysis<'a> {
         ensures program { result.0 ≡ self.entry.program }
         ensures needs { result.1 ≡ self.entry.needs }
         ensures groups { result.2 ≡ self.entry.groups }
+        ensures each_need { length result.1.funcs ≡ length result.0.funcs }
         ensures each_group { length result.2.of ≡ length result.1.funcs }
     {
         let Analysis {

@@ -1,7 +1,9 @@
-use Rattle.std.proofs.Common.{ap, ◌∙◌, subst}
+use Rattle.std.proofs.Common.{ap, ◌∙◌, length, subst, sym}
 use Rattle.ir_model.specs.Plain.{firmware_of}
 use Rattle.ir_model.specs.Resolved.{Program}
 use Rattle.ir_model.specs.State.{start}
+use Rattle.ir_program.specs.declared.program.Program.{Program as ProgramNow}
+use Rattle.ir_program.specs.Seen.{program_of, HasCounts}
 use Rattle.plan_model.specs.declared.groups.Groups.{Groups}
 use Rattle.plan_firmwares.proofs.Counting.{each_resolved}
 use Rattle.aces_selftest.specs.Counts.{IsSourceCount}
@@ -14,11 +16,11 @@ counted-requires-clause-checked c =
       firmware = firmware_of c.args.firmware.now;
       typed = c.firmware.ensures.typed;
       within = c.firmware.ensures.within;
-      is = c.in_ok-analysis.ensures.exact.program;
+      is = ap program_of c.into_parts.ensures.program ∙ c.in_ok-analysis.ensures.exact.program;
     }
 
 pub counted-requires-clause-counts : goal.counted-requires-clause-counts
-counted-requires-clause-counts c = c.in_ok-analysis.ensures.exact.counts
+counted-requires-clause-counts c = subst HasCounts (sym c.into_parts.ensures.program) c.in_ok-analysis.ensures.exact.counts
 
 pub returns : goal.returns
 returns c =
@@ -26,9 +28,10 @@ returns c =
     let h = c.in_ok-analysis.ensures.exact in
     let of = c.into_vec.result.items in
     let t = c.in_ok-count.count in
+    let p = c.into_parts.ensures.program in
     record {
-      functions = c.len-functions.ensures ∙ each_resolved a.program (firmware_of c.args.firmware.now) h.program;
+      functions = c.len-functions.ensures ∙ ap (λ (q : ProgramNow). length q.funcs) p ∙ each_resolved a.program (firmware_of c.args.firmware.now) h.program;
       compartments = of;
-      are = record { needs = a.needs; are_needs = h.needs; same = c.into_vec.ensures ∙ ap (λ (g : Groups). g.of) h.groups };
-      count = subst (λ (p : Program). IsSourceCount p of source_limit (start p c.args.tape) t) h.program c.in_ok-count.ensures;
+      are = record { needs = a.needs; are_needs = h.needs; same = c.into_vec.ensures ∙ ap (λ (g : Groups). g.of) (c.into_parts.ensures.groups ∙ h.groups) };
+      count = subst (λ (q : Program). IsSourceCount q of source_limit (start q c.args.tape) t) (ap program_of p ∙ h.program) c.in_ok-count.ensures;
     }
