@@ -298,5 +298,11 @@ pub fn least_pairs<L: Ledger>(
         pass_on(system, &mut state, pair, steps)?;
         fire(system, &mut state, pair, steps)?;
     }
-    Ok(state.into_pairs())
+    let State {
+        pairs,
+        edges: _,
+        log: _,
+        next: _,
+    } = state;
+    Ok(pairs)
 }

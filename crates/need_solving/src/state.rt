@@ -1,12 +1,11 @@
 //! Where a search stands.
 
-ghost use Rattle.std.specs.Prelude.{◌≡◌};
-
 use crate::log::Log;
 use need_numbers::Rows;
 use need_sets::Pairs;
 
 /// Where a search stands.
+#[derive(Drop)]
 pub(crate) struct State {
     /// The pairs that were found.
     pub(crate) pairs: Pairs,
@@ -16,30 +15,4 @@ pub(crate) struct State {
     pub(crate) log: Log,
     /// How many of them were looked at.
     pub(crate) next: usize,
-}
-
-impl Drop for State {
-    fn drop(self) {
-        let State {
-            pairs: _,
-            edges: _,
-            log: _,
-            next: _,
-        } = self;
-    }
-}
-
-impl State {
-    /// The pairs that were found.
-    pub(crate) fn into_pairs(self) -> Pairs
-        ensures { result ≡ self.pairs }
-    {
-        let State {
-            pairs,
-            edges: _,
-            log: _,
-            next: _,
-        } = self;
-        pairs
-    }
 }
