@@ -10,4 +10,4 @@ returns c =
     let h = c.requires.analysis in
     subst (λ s. IsPlanTold c.args.policy w c.args.board.now s c.in_ok-lines.lines.items) (sym c.in_ok-done.ensures)
     (unplanned a.needs c.args.refusal c.in_ok-lines.lines.items h.needs (c.requires.refused c.args.policy w h)
-    (rw (c.firmware.ensures.same, c.into_parts.ensures.program, c.into_parts.ensures.needs, c.into_parts.ensures.groups, h.program, h.groups) at c.in_ok-lines.ensures))
+    (rw (c.firmware.ensures.same, c.into_parts-program.ensures.program, c.into_parts-program.ensures.needs, c.into_parts-program.ensures.groups, h.program, h.groups) at c.in_ok-lines.ensures))

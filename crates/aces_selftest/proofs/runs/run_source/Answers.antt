@@ -16,11 +16,11 @@ counted-requires-clause-checked c =
       firmware = firmware_of c.args.firmware.now;
       typed = c.firmware.ensures.typed;
       within = c.firmware.ensures.within;
-      is = ap program_of c.into_parts.ensures.program ∙ c.in_ok-analysis.ensures.exact.program;
+      is = ap program_of c.into_parts-program.ensures.program ∙ c.in_ok-analysis.ensures.exact.program;
     }
 
 pub counted-requires-clause-counts : goal.counted-requires-clause-counts
-counted-requires-clause-counts c = subst HasCounts (sym c.into_parts.ensures.program) c.in_ok-analysis.ensures.exact.counts
+counted-requires-clause-counts c = subst HasCounts (sym c.into_parts-program.ensures.program) c.in_ok-analysis.ensures.exact.counts
 
 pub returns : goal.returns
 returns c =
@@ -28,10 +28,10 @@ returns c =
     let h = c.in_ok-analysis.ensures.exact in
     let of = c.into_vec.result.items in
     let t = c.in_ok-count.count in
-    let p = c.into_parts.ensures.program in
+    let p = c.into_parts-program.ensures.program in
     record {
       functions = c.len-functions.ensures ∙ ap (λ (q : ProgramNow). length q.funcs) p ∙ each_resolved a.program (firmware_of c.args.firmware.now) h.program;
       compartments = of;
-      are = record { needs = a.needs; are_needs = h.needs; same = c.into_vec.ensures ∙ ap (λ (g : Groups). g.of) (c.into_parts.ensures.groups ∙ h.groups) };
+      are = record { needs = a.needs; are_needs = h.needs; same = c.into_vec.ensures ∙ ap (λ (g : Groups). g.of) (c.into_parts-program.ensures.groups ∙ h.groups) };
       count = subst (λ (q : Program). IsSourceCount q of source_limit (start q c.args.tape) t) (ap program_of p ∙ h.program) c.in_ok-count.ensures;
     }
