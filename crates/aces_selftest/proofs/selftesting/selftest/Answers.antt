@@ -21,7 +21,7 @@ returns-clause-err c =
     let r = c.in-Err.refusal in
     let e = c.planning_failure.result in
     let made_so : firmware_of c.in_ok-firmware.firmware ≡ made seed size = c.in_ok-firmware.ensures in
-    let told_so : firmware_of c.firmware-in-Err.result.now ≡ made seed size = ap firmware_of c.firmware-in-Err.ensures.same ∙ made_so in
+    let told_so : firmware_of c.firmware.result.now ≡ made seed size = ap firmware_of c.firmware.ensures.same ∙ made_so in
     let board : c.test_board-board.result ≡ test_board = c.test_board-board.ensures in
     let unplanned : IsUnplanned Filename (made seed size) test_board r =
     subst (λ (b : Board). IsUnplanned Filename (made seed size) b r) board
