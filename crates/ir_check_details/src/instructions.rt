@@ -22,12 +22,13 @@ use crate::wording::{
     put, put_expected, put_expected_pointer, put_expected_type, put_found, put_found_typed,
 };
 use base_names::Name;
-use ir_check_scopes::kinds::{is_integer, is_register_type};
+use ir_check_scopes::kinds::is_register_type;
 use ir_model::firmware::{Binding, Firmware, Func};
 use ir_model::token::{Keyword, Mark};
 use ir_model::types::Ty;
 use ir_printer::tokens::{put_keyword, put_mark};
 use ir_printer::types::{put_result, put_type};
+use ir_types::kinds::is_integer;
 use std::alloc::AllocError;
 
 /// Puts the line of a register with its type.

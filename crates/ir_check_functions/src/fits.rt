@@ -9,7 +9,7 @@ ghost use Rattle.ir_model.specs.Rules as rules;
 
 use crate::calls::{is_call, is_icall, is_outcome};
 use base_names::Name;
-use ir_check_scopes::kinds::{is_integer, is_port, is_register_type, points_to};
+use ir_check_scopes::kinds::{is_port, is_register_type, points_to};
 use ir_check_scopes::lookup::{
     field_named, func_named, global_named, is_function, local_named, register_type,
 };
@@ -17,6 +17,7 @@ use ir_check_scopes::{FuncScope, Scope};
 use ir_model::firmware::{Inst, Term};
 use ir_model::types::Ty;
 use ir_types::equal::same_type;
+use ir_types::kinds::is_integer;
 
 /// Whether a type is `u32`.
 fn is_word(ty: &Ty) -> bool

@@ -1,26 +1,12 @@
 //! What kind a type is of, and what a pointer points to.
 
 ghost use Rattle.std.specs.Prelude.{◌≡◌};
-ghost use Rattle.ir_model.specs.Types.{type_of, same, Pointer, is_integer, is_register_type};
+ghost use Rattle.ir_model.specs.Types.{type_of, same, Pointer, is_register_type};
 ghost use Rattle.ir_model.specs.Rules as rules;
 
 use ir_model::types::Ty;
 use ir_types::equal::same_type;
-
-/// Whether a type is an integer's.
-pub fn is_integer(ty: &Ty) -> bool
-    ensures { result ≡ is_integer (type_of ty.now) }
-{
-    match ty {
-        Ty::U8 => true,
-        Ty::U16 => true,
-        Ty::U32 => true,
-        Ty::Ptr(_) => false,
-        Ty::Array(_, _) => false,
-        Ty::Named(_) => false,
-        Ty::Callee(_) => false,
-    }
-}
+use ir_types::kinds::is_integer;
 
 /// Whether a register may have a type.
 pub fn is_register_type(ty: &Ty) -> bool

@@ -13,8 +13,8 @@ ghost use Rattle.ir_run.specs.Cells.{is_port};
 
 use ir_layouts::table::Layouts;
 use ir_model::types::Ty;
-use ir_program::types::is_integer;
 use ir_program::value::Value;
+use ir_types::kinds::is_integer;
 
 /// The number of the cell at an offset of an object of a type; `ty` is the cell's type, and none is u32.
 pub fn cell_number(layouts: &Layouts, object: &Ty, at: u32, ty: Option<&Ty>) -> Option<u32>
