@@ -14,9 +14,9 @@ ghost use Rattle.aces_compiler.specs.Refusals.{IsCompileRefusal};
 
 use crate::pipeline::compile_groups;
 use ir_model::checked::Checked;
-use ir_program::program::Program;
 use machine_devices::image::Image;
 use plan::PlanningRefusal;
+use plan_firmwares::Analysis;
 use plan_model::groups::{FuncFacts, Groups};
 use plan_model::needs::Needs;
 use plan_model::plan::Board;
@@ -51,20 +51,19 @@ pub(crate) fn grouped<F: Fn(&FuncFacts) -> u32>(
 pub fn compile<F: Fn(&FuncFacts) -> u32>(
     alloc: Global,
     firmware: &Checked,
-    program: &Program,
-    needs: &Needs,
+    analysis: &Analysis,
     board: &Board,
     grouping: &Grouping<F>,
 ) -> Result<Image, PlanningRefusal>
-    requires program { program_of program.now ≡ resolve (firmware_of firmware.now) }
-    requires needs { AreNeedsOf (firmware_of firmware.now) board.now.closed needs.now }
+    requires program { program_of analysis.now.program ≡ resolve (firmware_of firmware.now) }
+    requires needs { AreNeedsOf (firmware_of firmware.now) board.now.closed analysis.now.needs }
     requires board { IsBoard board.now }
     requires grouping { IsGrouping grouping.now.functions grouping.now.count (F.pre grouping.now.callback) (FnReturnsAt F.Fn grouping.now.callback) }
     requires each { grouping.now.functions ≡ length (funcs_of (firmware_of firmware.now)) }
-    ensures ok { IfOk result (IsCompiled (firmware_of firmware.now) needs.now board.now (FnReturnsAt F.Fn grouping.now.callback)) }
-    ensures refused { IfErr result (IsCompileRefusal (firmware_of firmware.now) needs.now board.now (FnReturnsAt F.Fn grouping.now.callback)) }
+    ensures ok { IfOk result (IsCompiled (firmware_of firmware.now) analysis.now.needs board.now (FnReturnsAt F.Fn grouping.now.callback)) }
+    ensures refused { IfErr result (IsCompileRefusal (firmware_of firmware.now) analysis.now.needs board.now (FnReturnsAt F.Fn grouping.now.callback)) }
 {
-    let groups = grouped(alloc, firmware, needs, grouping)?;
-    let image = compile_groups(alloc, firmware, program, needs, groups, board)?;
+    let groups = grouped(alloc, firmware, &analysis.needs, grouping)?;
+    let image = compile_groups(alloc, firmware, analysis, groups, board)?;
     Ok(image)
 }

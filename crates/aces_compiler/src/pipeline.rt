@@ -19,14 +19,12 @@ ghost use Rattle.aces_compiler.specs.Compiled.{IsImageFor};
 use crate::laws::promised;
 use image_linker::link;
 use ir_model::checked::Checked;
-use ir_program::program::Program;
 use machine_devices::image::Image;
 use plan::{PlannedFirmware, PlanningRefusal, planned};
 use plan_compartments::laws::divisions_are_one;
 use plan_firmwares::{Analysis, analyse, planned_by};
 use plan_model::Policy;
 use plan_model::groups::Groups;
-use plan_model::needs::Needs;
 use plan_model::plan::Board;
 use std::alloc::{AllocError, Global};
 
@@ -65,14 +63,7 @@ fn image_by(
 {
     divisions_are_one();
     let made = planned_by(alloc, analysis, board)?;
-    let image = linked(
-        alloc,
-        firmware,
-        &analysis.program,
-        &analysis.needs,
-        &made,
-        board,
-    )?;
+    let image = linked(alloc, firmware, analysis, &made, board)?;
     Ok(image)
 }
 
@@ -80,21 +71,20 @@ fn image_by(
 fn linked(
     alloc: Global,
     firmware: &Checked,
-    program: &Program,
-    needs: &Needs,
+    analysis: &Analysis,
     planned: &PlannedFirmware,
     board: &Board,
 ) -> Result<Image, AllocError>
-    requires program { program_of program.now ≡ resolve (firmware_of firmware.now) }
-    requires needs { AreNeedsOf (firmware_of firmware.now) board.now.closed needs.now }
+    requires program { program_of analysis.now.program ≡ resolve (firmware_of firmware.now) }
+    requires needs { AreNeedsOf (firmware_of firmware.now) board.now.closed analysis.now.needs }
     requires groups { AreCompartments (resolve (firmware_of firmware.now)) planned.now.graph.groups }
-    requires planned { IsPlannedFor (resolve (firmware_of firmware.now)) needs.now planned.now.graph.groups board.now planned.now }
+    requires planned { IsPlannedFor (resolve (firmware_of firmware.now)) analysis.now.needs planned.now.graph.groups board.now planned.now }
     requires board { IsBoard board.now }
-    ensures { IfOk result (IsImageFor (firmware_of firmware.now) needs.now board.now planned.now.graph.groups) }
+    ensures { IfOk result (IsImageFor (firmware_of firmware.now) analysis.now.needs board.now planned.now.graph.groups) }
 {
     firmware.firmware();
     promised();
-    let image = written(alloc, firmware, program, needs, planned, board)?;
+    let image = written(alloc, firmware, analysis, planned, board)?;
     Ok(image)
 }
 
@@ -102,25 +92,48 @@ fn linked(
 pub(crate) fn written(
     alloc: Global,
     firmware: &Checked,
-    program: &Program,
-    needs: &Needs,
+    analysis: &Analysis,
     planned: &PlannedFirmware,
     board: &Board,
 ) -> Result<Image, AllocError>
-    requires program { program_of program.now ≡ resolve (firmware_of firmware.now) }
-    requires plan { planned.now.plan ≡ plan (firmware_of firmware.now) needs.now planned.now.graph board.now }
-    ensures { IfOk result (λ image. image ≡ planned_image (firmware_of firmware.now) needs.now planned.now.graph board.now) }
+    requires program { program_of analysis.now.program ≡ resolve (firmware_of firmware.now) }
+    requires plan { planned.now.plan ≡ plan (firmware_of firmware.now) analysis.now.needs planned.now.graph board.now }
+    ensures { IfOk result (λ image. image ≡ planned_image (firmware_of firmware.now) analysis.now.needs planned.now.graph board.now) }
 {
     let periphs = firmware.firmware().periphs.as_slice();
     link(
         alloc,
         periphs,
-        program,
-        needs,
+        &analysis.program,
+        &analysis.needs,
         &planned.graph,
         &planned.plan,
         board,
     )
+}
+
+/// How an analysed firmware is planned for a board in these compartments.
+///
+/// # Errors
+///
+/// There is no memory, a limit of what is compiled is passed, an address that the firmware asks for is one that the board denies, or the
+/// blocks have more bytes than a memory of the board.
+pub(crate) fn plan_of_groups(
+    alloc: Global,
+    firmware: &Checked,
+    analysis: &Analysis,
+    groups: Groups,
+    board: &Board,
+) -> Result<PlannedFirmware, PlanningRefusal>
+    requires program { program_of analysis.now.program ≡ resolve (firmware_of firmware.now) }
+    requires needs { AreNeedsOf (firmware_of firmware.now) board.now.closed analysis.now.needs }
+    requires groups { AreCompartments (resolve (firmware_of firmware.now)) groups }
+    requires board { IsBoard board.now }
+    ensures ok { IfOk result (IsPlannedFor (resolve (firmware_of firmware.now)) analysis.now.needs groups board.now) }
+    ensures refused { IfErr result (IsPlanningRefusal (resolve (firmware_of firmware.now)) analysis.now.needs groups board.now) }
+{
+    let made = planned(alloc, &analysis.program, &analysis.needs, groups, board)?;
+    Ok(made)
 }
 
 /// The image of a firmware for a board, its compartments being these: their graph is joined until the protection unit can hold it, all
@@ -133,19 +146,18 @@ pub(crate) fn written(
 pub fn compile_groups(
     alloc: Global,
     firmware: &Checked,
-    program: &Program,
-    needs: &Needs,
+    analysis: &Analysis,
     groups: Groups,
     board: &Board,
 ) -> Result<Image, PlanningRefusal>
-    requires program { program_of program.now ≡ resolve (firmware_of firmware.now) }
-    requires needs { AreNeedsOf (firmware_of firmware.now) board.now.closed needs.now }
+    requires program { program_of analysis.now.program ≡ resolve (firmware_of firmware.now) }
+    requires needs { AreNeedsOf (firmware_of firmware.now) board.now.closed analysis.now.needs }
     requires groups { AreCompartments (resolve (firmware_of firmware.now)) groups }
     requires board { IsBoard board.now }
-    ensures ok { IfOk result (IsImageFor (firmware_of firmware.now) needs.now board.now groups) }
-    ensures refused { IfErr result (IsPlanningRefusal (resolve (firmware_of firmware.now)) needs.now groups board.now) }
+    ensures ok { IfOk result (IsImageFor (firmware_of firmware.now) analysis.now.needs board.now groups) }
+    ensures refused { IfErr result (IsPlanningRefusal (resolve (firmware_of firmware.now)) analysis.now.needs groups board.now) }
 {
-    let made = planned(alloc, program, needs, groups, board)?;
-    let image = linked(alloc, firmware, program, needs, &made, board)?;
+    let plan = plan_of_groups(alloc, firmware, analysis, groups, board)?;
+    let image = linked(alloc, firmware, analysis, &plan, board)?;
     Ok(image)
 }

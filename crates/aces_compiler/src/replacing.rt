@@ -16,17 +16,16 @@ ghost use Rattle.aces_compiler.specs.WithCode.{IsImageWithCode, IsCompiledWithCo
 
 use crate::compiling::grouped;
 use crate::laws::promised;
-use crate::pipeline::written;
+use crate::pipeline::{plan_of_groups, written};
 use base_lists::ListVec;
 use image_linker::put_bytes;
 use ir_model::checked::Checked;
-use ir_program::program::Program;
 use machine_devices::image::Image;
 use monitor_code::page::filled_up;
-use plan::{PlanningRefusal, planned};
+use plan::PlanningRefusal;
+use plan_firmwares::Analysis;
 use plan_model::Spot;
 use plan_model::groups::{FuncFacts, Groups};
-use plan_model::needs::Needs;
 use plan_model::plan::Board;
 use plan_policies::grouping::Grouping;
 use std::alloc::{AllocError, Global};
@@ -96,23 +95,22 @@ fn with_block(alloc: Global, image: Image, spot: Spot, code: &[u8]) -> Result<Im
 fn groups_with_code(
     alloc: Global,
     firmware: &Checked,
-    program: &Program,
-    needs: &Needs,
+    analysis: &Analysis,
     groups: Groups,
     board: &Board,
     compartment: u32,
     code: &[u8],
 ) -> Result<Image, CodeRefusal>
-    requires program { program_of program.now ≡ resolve (firmware_of firmware.now) }
-    requires needs { AreNeedsOf (firmware_of firmware.now) board.now.closed needs.now }
+    requires program { program_of analysis.now.program ≡ resolve (firmware_of firmware.now) }
+    requires needs { AreNeedsOf (firmware_of firmware.now) board.now.closed analysis.now.needs }
     requires groups { AreCompartments (resolve (firmware_of firmware.now)) groups }
     requires board { IsBoard board.now }
-    ensures ok { IfOk result (IsImageWithCode (firmware_of firmware.now) needs.now board.now groups compartment code.now) }
-    ensures refused { IfErr result (IsGroupsRefusal (firmware_of firmware.now) needs.now board.now groups compartment code.now) }
+    ensures ok { IfOk result (IsImageWithCode (firmware_of firmware.now) analysis.now.needs board.now groups compartment code.now) }
+    ensures refused { IfErr result (IsGroupsRefusal (firmware_of firmware.now) analysis.now.needs board.now groups compartment code.now) }
 {
     firmware.firmware();
     promised();
-    let made = match planned(alloc, program, needs, groups, board) {
+    let made = match plan_of_groups(alloc, firmware, analysis, groups, board) {
         Ok(made) => made,
         Err(PlanningRefusal::NoMemory) => return Err(CodeRefusal::NoMemory),
         Err(refusal) => return Err(CodeRefusal::Refused(refusal)),
@@ -123,7 +121,7 @@ fn groups_with_code(
     if code.len() > spot.size as usize {
         return Err(CodeRefusal::Length);
     }
-    let image = written(alloc, firmware, program, needs, &made, board)?;
+    let image = written(alloc, firmware, analysis, &made, board)?;
     Ok(with_block(alloc, image, *spot, code)?)
 }
 
@@ -136,30 +134,20 @@ fn groups_with_code(
 pub fn compile_with_code<F: Fn(&FuncFacts) -> u32>(
     alloc: Global,
     firmware: &Checked,
-    program: &Program,
-    needs: &Needs,
+    analysis: &Analysis,
     board: &Board,
     grouping: &Grouping<F>,
     compartment: u32,
     code: &[u8],
 ) -> Result<Image, CodeRefusal>
-    requires program { program_of program.now ≡ resolve (firmware_of firmware.now) }
-    requires needs { AreNeedsOf (firmware_of firmware.now) board.now.closed needs.now }
+    requires program { program_of analysis.now.program ≡ resolve (firmware_of firmware.now) }
+    requires needs { AreNeedsOf (firmware_of firmware.now) board.now.closed analysis.now.needs }
     requires board { IsBoard board.now }
     requires grouping { IsGrouping grouping.now.functions grouping.now.count (F.pre grouping.now.callback) (FnReturnsAt F.Fn grouping.now.callback) }
     requires each { grouping.now.functions ≡ length (funcs_of (firmware_of firmware.now)) }
-    ensures ok { IfOk result (IsCompiledWithCode (firmware_of firmware.now) needs.now board.now (FnReturnsAt F.Fn grouping.now.callback) compartment code.now) }
-    ensures refused { IfErr result (IsCodeRefusal (firmware_of firmware.now) needs.now board.now (FnReturnsAt F.Fn grouping.now.callback) compartment code.now) }
+    ensures ok { IfOk result (IsCompiledWithCode (firmware_of firmware.now) analysis.now.needs board.now (FnReturnsAt F.Fn grouping.now.callback) compartment code.now) }
+    ensures refused { IfErr result (IsCodeRefusal (firmware_of firmware.now) analysis.now.needs board.now (FnReturnsAt F.Fn grouping.now.callback) compartment code.now) }
 {
-    let groups = grouped(alloc, firmware, needs, grouping)?;
-    groups_with_code(
-        alloc,
-        firmware,
-        program,
-        needs,
-        groups,
-        board,
-        compartment,
-        code,
-    )
+    let groups = grouped(alloc, firmware, &analysis.needs, grouping)?;
+    groups_with_code(alloc, firmware, analysis, groups, board, compartment, code)
 }

@@ -141,14 +141,7 @@ fn divided_by(
         ensures { result ≡ facts.now.index % count }
     { facts.index % count };
     let grouping = Grouping::new(by_number, functions as u32, count);
-    let made = compile(
-        alloc,
-        firmware,
-        &analysis.program,
-        &analysis.needs,
-        board,
-        &grouping,
-    );
+    let made = compile(alloc, firmware, analysis, board, &grouping);
     let Grouping {
         callback: _callback,
         functions: _functions,
@@ -199,8 +192,7 @@ fn replaced_by(
     let made = compile_with_code(
         alloc,
         firmware,
-        &analysis.program,
-        &analysis.needs,
+        analysis,
         board,
         &grouping,
         compartment,

@@ -6,12 +6,12 @@ use Rattle.aces_compiler.proofs.pipeline.linked.Goals as goal
 pub written-requires-clause-plan : goal.written-requires-clause-plan
 written-requires-clause-plan c =
     let made = c.args.planned.now in
-    plan_is (firmware_of c.args.firmware.now) c.args.needs.now c.args.board.now made.graph.groups made c.requires.planned
+    plan_is (firmware_of c.args.firmware.now) c.args.analysis.now.needs c.args.board.now made.graph.groups made c.requires.planned
 
 pub returns : goal.returns
 returns c =
     let w = firmware_of c.args.firmware.now in
-    let n = c.args.needs.now in
+    let n = c.args.analysis.now.needs in
     let b = c.args.board.now in
     let made = c.args.planned.now in
     let groups = made.graph.groups in

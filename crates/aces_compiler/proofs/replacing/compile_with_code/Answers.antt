@@ -3,4 +3,4 @@ use Rattle.plan_firmwares.proofs.Analysing.{each_need}
 use Rattle.aces_compiler.proofs.replacing.compile_with_code.Goals as goal
 
 pub grouped-requires-clause-needs : goal.grouped-requires-clause-needs
-grouped-requires-clause-needs g c = each_need (firmware_of c.args.firmware.now) c.args.board.now.closed c.args.needs.now c.requires.needs
+grouped-requires-clause-needs g c = each_need (firmware_of c.args.firmware.now) c.args.board.now.closed c.args.analysis.now.needs c.requires.needs

@@ -1,39 +1,26 @@
-use Rattle.std.proofs.Common.{subst, sym, ◌∙◌}
+use Rattle.std.proofs.Common.{subst, sym}
 use Rattle.ir_model.specs.Plain.{firmware_of}
 use Rattle.ir_model.specs.Resolve.{resolve}
-use Rattle.ir_model.specs.Resolved.{Program}
 use Rattle.plan_model.specs.Compartments.{AreCompartments}
-use Rattle.plan.specs.Planned.{IsPlannedFor}
 use Rattle.plan_firmwares.proofs.Planned.{is_planned}
-use Rattle.aces_compiler.proofs.Parts.{routines, plan_is}
+use Rattle.aces_compiler.proofs.Parts.{plan_is}
 use Rattle.aces_compiler.proofs.Replaced.{beyond, too_long, with_code}
 use Rattle.aces_compiler.proofs.replacing.groups_with_code.Goals as goal
-use Rattle.plan_model.proofs.Compartments.{each_compartment}
-
-pub planned-requires-clause-needs : goal.planned-requires-clause-needs
-planned-requires-clause-needs c =
-    each_compartment (resolve (firmware_of c.args.firmware.now)) c.args.groups c.requires.groups ∙ sym c.requires.needs.needs.count
-
-pub planned-requires-clause-each : goal.planned-requires-clause-each
-planned-requires-clause-each c =
-    let w = firmware_of c.args.firmware.now in
-    each_compartment (resolve w) c.args.groups c.requires.groups ∙ sym (routines c.args.program.now w c.requires.program)
 
 pub written-requires-clause-plan : goal.written-requires-clause-plan
 written-requires-clause-plan c =
     let w = firmware_of c.args.firmware.now in
     let made = c.in-Ok.made in
-    let planned = subst (λ (p : Program). IsPlannedFor p c.args.needs.now c.args.groups c.args.board.now made) c.requires.program c.in-Ok.ensures.ok in
-    plan_is w c.args.needs.now c.args.board.now c.args.groups made planned
+    plan_is w c.args.analysis.now.needs c.args.board.now c.args.groups made c.in-Ok.ensures.ok
 
 pub returns-in_default-clause-refused : goal.returns-in_default-clause-refused
 returns-in_default-clause-refused c =
     let w = firmware_of c.args.firmware.now in
-    let n = c.args.needs.now in
+    let n = c.args.analysis.now.needs in
     let b = c.args.board.now in
     let groups = c.args.groups in
     let made = c.in-Ok.made in
-    let planned = subst (λ (p : Program). IsPlannedFor p n groups b made) c.requires.program c.in-Ok.ensures.ok in
+    let planned = c.in-Ok.ensures.ok in
     let are = subst (AreCompartments (resolve w)) (sym planned.groups) c.requires.groups in
     let is = is_planned w n b groups made planned c.promised.ensures.serve c.firmware.ensures.typed c.firmware.ensures.within c.requires.needs c.requires.board are in
     beyond w n b groups made planned is c.args.compartment c.as_slice.result.now c.as_slice.ensures c.in_default.ensures.lookup.3
@@ -41,11 +28,11 @@ returns-in_default-clause-refused c =
 pub returns-then-code-spot-clause-refused : goal.returns-then-code-spot-clause-refused
 returns-then-code-spot-clause-refused c =
     let w = firmware_of c.args.firmware.now in
-    let n = c.args.needs.now in
+    let n = c.args.analysis.now.needs in
     let b = c.args.board.now in
     let groups = c.args.groups in
     let made = c.in-Ok.made in
-    let planned = subst (λ (p : Program). IsPlannedFor p n groups b made) c.requires.program c.in-Ok.ensures.ok in
+    let planned = c.in-Ok.ensures.ok in
     let are = subst (AreCompartments (resolve w)) (sym planned.groups) c.requires.groups in
     let is = is_planned w n b groups made planned c.promised.ensures.serve c.firmware.ensures.typed c.firmware.ensures.within c.requires.needs c.requires.board are in
     let found = c.in-Some.ensures.lookup in
@@ -54,11 +41,11 @@ returns-then-code-spot-clause-refused c =
 pub returns-clause-ok : goal.returns-clause-ok
 returns-clause-ok c =
     let w = firmware_of c.args.firmware.now in
-    let n = c.args.needs.now in
+    let n = c.args.analysis.now.needs in
     let b = c.args.board.now in
     let groups = c.args.groups in
     let made = c.in-Ok.made in
-    let planned = subst (λ (p : Program). IsPlannedFor p n groups b made) c.requires.program c.in-Ok.ensures.ok in
+    let planned = c.in-Ok.ensures.ok in
     let are = subst (AreCompartments (resolve w)) (sym planned.groups) c.requires.groups in
     let is = is_planned w n b groups made planned c.promised.ensures.serve c.firmware.ensures.typed c.firmware.ensures.within c.requires.needs c.requires.board are in
     let found = c.in-Some.ensures.lookup in
