@@ -2,7 +2,7 @@
 #![tactic(auto)]
 
 mod all_lines;
-pub mod answer_text;
+mod answer_text;
 mod asking;
 pub mod auditing;
 mod compartments;

@@ -1,10 +1,10 @@
 //! Compiles: makes the image of a checked firmware for a board, its functions grouped by a callback or by a policy.
 #![tactic(auto)]
 
-pub mod compiling;
+mod compiling;
 mod laws;
-pub mod pipeline;
-pub mod replacing;
+mod pipeline;
+mod replacing;
 
 pub use compiling::compile;
 pub use pipeline::{compile_by, compile_groups};

@@ -2,23 +2,23 @@
 #![tactic(auto)]
 
 mod board_rules;
-pub mod board_telling;
+mod board_telling;
 mod details;
 mod excerpt;
 mod expected;
 pub mod explaining;
-pub mod explanations;
+mod explanations;
 mod fault_rules;
 mod fault_texts;
-pub mod flash;
+mod flash;
 mod key_lines;
 pub mod laws;
 mod plan_rules;
-pub mod plan_telling;
+mod plan_telling;
 pub mod planned;
 mod ram;
 mod room_lines;
-pub mod telling;
+mod telling;
 
 pub use board_telling::board_told;
 pub use plan_telling::refusal_told;

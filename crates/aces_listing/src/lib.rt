@@ -1,6 +1,6 @@
 //! What `list` prints of a firmware: its compartments by a policy, and what lies where on a board.
 #![tactic(auto)]
 
-pub mod listings;
+mod listings;
 
 pub use listings::listing_of;

@@ -3,11 +3,11 @@
 
 mod board;
 pub mod laws;
-pub mod machines;
+mod machines;
 pub mod printing;
 mod runs;
-pub mod selftesting;
-pub mod sources;
+mod selftesting;
+mod sources;
 mod tables;
 mod telling;
 mod testing;

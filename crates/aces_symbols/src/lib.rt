@@ -1,6 +1,6 @@
 //! What `symbols` prints of a firmware: what is where in its image on a board, its compartments being those of a policy.
 #![tactic(auto)]
 
-pub mod telling;
+mod telling;
 
 pub use telling::symbols_of;

@@ -3,13 +3,13 @@
 
 mod calls;
 pub mod commanding;
-pub mod finding;
+mod finding;
 mod places;
 mod rows;
 mod search;
 mod shared;
-pub mod subject;
-pub mod telling;
+mod subject;
+mod telling;
 mod uses;
 mod warnings;
 

@@ -6,7 +6,7 @@ mod calls;
 mod comparisons;
 mod entry;
 mod frame;
-pub mod function;
+mod function;
 mod instructions;
 mod numbers;
 mod subject;

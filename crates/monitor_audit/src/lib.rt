@@ -2,7 +2,7 @@
 #![tactic(auto)]
 
 pub mod answer;
-pub mod auditing;
+mod auditing;
 mod forms;
 mod head;
 mod header;
@@ -18,7 +18,7 @@ mod ranges;
 mod records;
 mod regions;
 mod sites;
-pub mod tables;
+mod tables;
 
 pub use answer::{Audit, Audited, FailedCheck};
 pub use auditing::{audit, audited};

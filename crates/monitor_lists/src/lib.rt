@@ -1,15 +1,15 @@
 //! The monitor's lists in the making: start-up, the handler of SVC and the handler of MemManage.
 #![tactic(auto)]
 
-pub mod halts;
-pub mod list;
+mod halts;
+mod list;
 pub mod memfault;
-pub mod numbers;
-pub mod opening;
-pub mod places;
+mod numbers;
+mod opening;
+mod places;
 pub mod reset;
 pub mod svc;
-pub mod values;
+mod values;
 
 pub use list::StepList;
 pub use numbers::Numbers;

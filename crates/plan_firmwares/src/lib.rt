@@ -2,9 +2,9 @@
 //! lie.
 #![tactic(auto)]
 
-pub mod analysis;
+mod analysis;
 pub mod laws;
-pub mod planning;
+mod planning;
 
 pub use analysis::Analysis;
 pub use planning::{analyse, planned_by};
