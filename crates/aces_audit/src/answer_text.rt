@@ -83,7 +83,7 @@ fn put_answer(text: &mut Text, answer: &Audit) -> Result<(), AllocError>
     }
 }
 
-/// The line on an image that is answered so: `yes compartments 4 sites 4`, or `no regions 0x08001020`.
+/// The line of an answer on an image: `yes compartments 4 sites 4`, or `no regions 0x08001020`.
 ///
 /// # Errors
 ///

@@ -32,7 +32,7 @@ pub(crate) enum Asked {
     Tables,
 }
 
-/// How the command ends that answers so.
+/// How the command ends with an answer.
 fn done_by(answer: &Audit) -> Done
     ensures { status_of (Ok result) ≡ answer_status answer.now }
 {

@@ -24,7 +24,7 @@ use plan_model::Policy;
 use plan_model::plan::Board;
 use std::alloc::Global;
 
-/// Writes the image of a firmware for a board by a policy to a file. Whatever takes the output is left as it is.
+/// Writes the image of a firmware for a board by a policy to a file. The output stays as it is.
 pub(crate) fn compile<'a, F: Files>(
     alloc: Global,
     firmware: &'a str,

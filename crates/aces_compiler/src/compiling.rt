@@ -1,4 +1,4 @@
-//! Images of checked firmwares, their functions being grouped by callbacks.
+//! Images of checked firmwares, whose functions are grouped by callbacks.
 
 ghost use Rattle.std.specs.Prelude.{◌≡◌, length, IfOk, IfErr};
 ghost use Rattle.std.specs.Fn.{FnReturnsAt};
@@ -42,7 +42,7 @@ pub(crate) fn grouped<F: Fn(&FuncFacts) -> u32>(
     Ok(made)
 }
 
-/// The image of a firmware for a board, its functions being grouped by a callback.
+/// The image of a firmware for a board, where a callback groups the functions.
 ///
 /// # Errors
 ///

@@ -28,7 +28,7 @@ use plan_model::groups::Groups;
 use plan_model::plan::Board;
 use std::alloc::{AllocError, Global};
 
-/// The image of a firmware for a board, its compartments being those of a policy.
+/// The image of a firmware for a board, in the compartments of a policy.
 ///
 /// # Errors
 ///
@@ -136,7 +136,7 @@ pub(crate) fn plan_of_groups(
     Ok(made)
 }
 
-/// The image of a firmware for a board, its compartments being these: their graph is joined until the protection unit can hold it, all
+/// The image of a firmware for a board, in these compartments: their graph is joined until the protection unit can hold it, all
 /// blocks are placed, and code and tables are written.
 ///
 /// # Errors

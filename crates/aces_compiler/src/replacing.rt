@@ -125,7 +125,7 @@ fn groups_with_code(
     Ok(with_block(alloc, image, *spot, code)?)
 }
 
-/// The image of a firmware for a board, its functions being grouped by a callback, in which the block of one compartment has this
+/// The image of a firmware for a board, where a callback groups the functions and the block of one compartment has this
 /// code, and is erased behind it. It is confined as the image without it is, tells who runs, and keeps its memory apart.
 ///
 /// # Errors

@@ -54,7 +54,7 @@ fn put_kind_rule(text: &mut Text, key: Key) -> Result<(), AllocError>
     text.put(value_text(key))
 }
 
-/// Puts the rule of a key that is not there.
+/// Puts the rule of a missing key.
 fn put_missing_rule(text: &mut Text, key: Key) -> Result<(), AllocError>
     ensures { OnOk result (text.new ≡ text.old ++ rules.missing_rule key) }
 {

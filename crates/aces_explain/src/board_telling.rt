@@ -82,7 +82,7 @@ fn shown(line: &[u8]) -> &[u8]
     front
 }
 
-/// Puts where a line of a number from 0 stands.
+/// Puts a line's place, by its number from 0.
 fn put_place(text: &mut Text, place: Option<usize>) -> Result<(), AllocError>
     ensures { OnOk result (text.new ≡ text.old ++ told.place_text place) }
 {
@@ -112,7 +112,7 @@ fn put_head(
     text.put(b"\n")
 }
 
-/// The line of a number; of one that is not there, no byte.
+/// The line of a number; empty for an absent one.
 fn line_at<'a>(lines: &[&'a [u8]], number: usize) -> &'a [u8]
     ensures { result.now ≡ get_or (map (λ line. line.now) lines.now) number [] }
 {

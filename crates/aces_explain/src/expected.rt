@@ -35,7 +35,7 @@ fn most(which: TextLimit) -> u64
     }
 }
 
-/// From where on.
+/// The words before a limit.
 fn from(which: TextLimit) -> &'static [u8]
     ensures { result.now ≡ expected.from which }
 {
@@ -58,7 +58,7 @@ fn from(which: TextLimit) -> &'static [u8]
     }
 }
 
-/// And of what.
+/// The word behind a limit.
 fn things(which: TextLimit) -> &'static [u8]
     ensures { result.now ≡ expected.things which }
 {
@@ -100,7 +100,7 @@ fn put_excess(text: &mut Text, excess: Excess) -> Result<(), AllocError>
     }
 }
 
-/// Puts the line of it.
+/// Puts the line `expected`.
 ///
 /// # Errors
 ///

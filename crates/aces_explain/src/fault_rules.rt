@@ -6,21 +6,21 @@ ghost use Rattle.aces_explain.specs.RuleTexts as rules;
 use ir_model::check::{CheckKind, CheckPlace};
 use ir_model::token::{Excess, TextLimit};
 
-/// That of bytes that are not UTF-8.
+/// The rule of UTF-8.
 pub(crate) fn utf8_rule() -> &'static [u8]
     ensures { result.now ≡ rules.utf8_rule }
 {
     b"a text is UTF-8, and letters beyond ASCII stand in comments alone"
 }
 
-/// That of syntax.
+/// The syntax rule.
 pub(crate) fn syntax_rule() -> &'static [u8]
     ensures { result.now ≡ rules.syntax_rule }
 {
     b"a text has structs, peripherals, globals and files in this order, and each token where the grammar has it"
 }
 
-/// That of a limit.
+/// A limit's rule.
 fn limit_rule(which: TextLimit) -> &'static [u8]
     ensures { result.now ≡ rules.limit_rule which }
 {
@@ -47,7 +47,7 @@ fn limit_rule(which: TextLimit) -> &'static [u8]
     }
 }
 
-/// That of what a token passes.
+/// The rule of an excess.
 pub(crate) fn excess_rule(excess: Excess) -> &'static [u8]
     ensures { result.now ≡ rules.excess_rule excess }
 {
@@ -57,7 +57,7 @@ pub(crate) fn excess_rule(excess: Excess) -> &'static [u8]
     }
 }
 
-/// That of a name that is not there, by the place.
+/// The rule of a missing name, by the place.
 fn unknown_rule(place: &CheckPlace) -> &'static [u8]
     ensures { result.now ≡ rules.unknown_rule place.now }
 {
@@ -76,7 +76,7 @@ fn unknown_rule(place: &CheckPlace) -> &'static [u8]
     }
 }
 
-/// That of a name that is there already, by the place.
+/// The rule of a repeated name, by the place.
 fn twice_rule(place: &CheckPlace) -> &'static [u8]
     ensures { result.now ≡ rules.twice_rule place.now }
 {
@@ -94,7 +94,7 @@ fn twice_rule(place: &CheckPlace) -> &'static [u8]
     }
 }
 
-/// That of types that do not fit, by the place.
+/// The rule of ill-typed items, by the place.
 fn type_rule(place: &CheckPlace) -> &'static [u8]
     ensures { result.now ≡ rules.type_rule place.now }
 {
@@ -113,7 +113,7 @@ fn type_rule(place: &CheckPlace) -> &'static [u8]
     }
 }
 
-/// That of a check that fails there.
+/// The rule of a check that fails.
 pub(crate) fn check_rule(kind: &CheckKind, place: &CheckPlace) -> &'static [u8]
     ensures { result.now ≡ rules.check_rule kind.now place.now }
 {

@@ -1,4 +1,4 @@
-//! The rules that a firmware breaks for which there is no plan.
+//! The rules that a firmware without a plan breaks.
 
 ghost use Rattle.std.specs.Prelude.{◌≡◌, ◌++◌, OnOk};
 ghost use Rattle.aces_reports.specs.FaultLines.{compiled_word};
@@ -97,7 +97,7 @@ pub(crate) fn put_flash_rule(text: &mut Text) -> Result<(), AllocError>
     )
 }
 
-/// What the rule of blocks of RAM has more, by the block that stands lowest.
+/// What the rule of blocks of RAM adds, by the block that stands lowest.
 fn lowest_rule(lowest: Lowest) -> &'static [u8]
     ensures { result.now ≡ rules.lowest_rule lowest }
 {

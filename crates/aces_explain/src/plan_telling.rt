@@ -149,8 +149,8 @@ fn room_told(
     }
 }
 
-/// What is told of a firmware that was refused so by planning: why, the blocks of the final graph where a memory has no room for them, and
-/// the rule. There is a need of each function and a compartment for it.
+/// What is told of a firmware that planning refused: why, the blocks of the final graph where a memory has no room for them, and
+/// the rule. Each function has a need and a compartment.
 ///
 /// # Errors
 ///

@@ -166,7 +166,7 @@ fn on_both(
     }
 }
 
-/// The same lines, or want of memory as the failure that it is.
+/// The same lines, with want of memory as a failure.
 fn lines_on<'a>(
     alloc: Global,
     firmware: &'a str,

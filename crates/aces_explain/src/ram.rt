@@ -43,7 +43,7 @@ fn put_globals(
     text.put(b" bytes")
 }
 
-/// The globals of a data region; of one that is not there, none.
+/// The globals of a data region; none for an absent one.
 fn globals_of(graph: &Final, region: u32) -> &[u32]
     ensures { result.now ≡ (region_at graph.now.regions region).globals }
 {

@@ -11,7 +11,7 @@ use aces_reports::{Done, Failure};
 use base_outside::Files;
 use std::alloc::Global;
 
-/// Writes the flash bytes of an image to a file. Whatever takes the output is left as it is.
+/// Writes the flash bytes of an image to a file. The output stays as it is.
 pub fn bin<'a, F: Files>(
     alloc: Global,
     image: &'a str,

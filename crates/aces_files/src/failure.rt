@@ -1,4 +1,4 @@
-//! The failures that faults of files and refusals of planning are.
+//! Faults of files and refusals of planning as failures.
 
 ghost use Rattle.std.specs.Prelude.{◌≡◌, ◌⊎◌};
 ghost use Rattle.aces_reports.specs.declared.failure.Failure.TheVariants.{Denied, NoMemory};
@@ -16,7 +16,7 @@ use plan_model::plan::Board;
 use plan_report::meeting_text;
 use std::alloc::Global;
 
-/// The failure that a fault of a file's content is: the refusal of the file, or want of memory where its reader met that.
+/// A fault of a file's content as a failure: the refusal of the file, or want of memory where its reader met that.
 pub fn content_failure(name: &str, fault: Fault) -> Failure<'_>
     ensures { IsContentFailure (IsContentFault fault) name.now result }
 {
@@ -27,7 +27,7 @@ pub fn content_failure(name: &str, fault: Fault) -> Failure<'_>
     }
 }
 
-/// The failure that a refusal of planning is, of a firmware for a board; or that there is no memory to tell it.
+/// A refusal of a firmware for a board by planning as a failure; or want of memory to tell it.
 pub fn planning_failure<'a>(
     alloc: Global,
     firmware: &Firmware,
@@ -44,7 +44,7 @@ pub fn planning_failure<'a>(
     }
 }
 
-/// The failure that a range is which is asked for and denied.
+/// A range that is asked for and denied, as a failure.
 fn denied_failure<'a>(
     alloc: Global,
     firmware: &Firmware,

@@ -70,7 +70,7 @@ fn run_texts<'a, O: Sink>(
     }
 }
 
-/// How a run ends that ends so.
+/// The outcome of a run's end.
 fn done(end: End) -> Done
     ensures { status_of (Ok result) ≡ end_status end }
 {

@@ -6,7 +6,7 @@ ghost use Rattle.aces_files.specs.Tellings.{Prints};
 use aces_reports::{Done, Failure};
 use base_outside::Sink;
 
-/// Lines, and how the command ends that prints them.
+/// Lines, and how the command that prints them ends.
 pub struct CommandOutput {
     /// The lines.
     pub lines: Vec<u8>,
@@ -20,7 +20,7 @@ impl Drop for CommandOutput {
     }
 }
 
-/// Prints these lines, and ends the command so.
+/// Prints these lines, and answers `done`.
 pub fn print<'a, O: Sink>(lines: &[u8], done: Done, out: &mut O) -> Result<Done, Failure<'a>>
     ensures { Prints (sink O.Sink out.old) (sink O.Sink out.new) lines.now done result }
 {

@@ -1,4 +1,4 @@
-//! `check`: a firmware, read and checked, and how much of what it has.
+//! `check`: a firmware, read and checked, and its counts.
 
 ghost use Rattle.std.specs.Prelude.{◌≡◌, ◌≤◌, length, flat_map};
 ghost use Rattle.ir_model.specs.declared.firmware.FileDecl.{FileDecl as SourceFile};

@@ -88,7 +88,7 @@ pub fn divided(
     })
 }
 
-/// The same on the bytes of both files, each behind its name. No file is touched.
+/// `source` on the bytes of both files, each behind its name. No file is touched.
 fn source_texts<'a, O: Sink>(
     alloc: Global,
     firmware: &'a str,
@@ -111,7 +111,7 @@ fn source_texts<'a, O: Sink>(
     source_checked(alloc, &checked, policy, tape, text, steps, out)
 }
 
-/// The same of a checked firmware, whatever file it was read from.
+/// `source` of a checked firmware, whatever file it was read from.
 fn source_checked<'a, O: Sink>(
     alloc: Global,
     checked: &Checked,
@@ -151,7 +151,7 @@ fn source_checked<'a, O: Sink>(
     }
 }
 
-/// How a run ends that ends so; none where it ran all its steps.
+/// The outcome of a run's end, or of a run of all its steps.
 fn done(end: Option<SourceEnd>) -> Done
     ensures { status_of (Ok result) ≡ end_status (seen_end end) }
 {

@@ -81,7 +81,7 @@ fn address_read(word: &str) -> u32
     aces_words::address(word).unwrap()
 }
 
-/// How a run ends that pauses so.
+/// The outcome of a run's pause.
 fn done(pause: Pause) -> Done
     ensures { status_of (Ok result) ≡ pause_status pause }
 {

@@ -44,7 +44,7 @@ fn listing_of_plan(
     listing(alloc, &subject, policy.word())
 }
 
-/// What `list` prints of a firmware on a board, its compartments being those of a policy.
+/// What `list` prints of a firmware on a board, in the compartments of a policy.
 ///
 /// # Errors
 ///

@@ -46,7 +46,7 @@ pub fn stack<'a, F: Files, O: Sink>(
     print(told.lines.as_slice(), told.done, out)
 }
 
-/// The same by the bytes of both files, each behind its name. No file is touched, and nothing is printed yet.
+/// The output by the bytes of both files, each behind its name. No file is touched, and nothing is printed.
 fn bounded<'a>(
     alloc: Global,
     firmware: &'a str,

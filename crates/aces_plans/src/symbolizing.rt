@@ -18,7 +18,7 @@ use base_outside::{Files, Sink};
 use plan_model::Policy;
 use std::alloc::Global;
 
-/// Prints what lies where in the image of a firmware on a board, its compartments being those of a policy.
+/// Prints what lies where in the image of a firmware on a board, in the compartments of a policy.
 pub fn symbols<'a, F: Files, O: Sink>(
     alloc: Global,
     firmware: &'a str,

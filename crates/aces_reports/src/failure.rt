@@ -14,7 +14,7 @@ use plan_layout::refusal::Lack;
 use plan_model::limits::LimitKind;
 use std::alloc::AllocError;
 
-/// How a command ends that nothing stopped.
+/// How a command that nothing stopped ends.
 #[derive(Clone, Copy)]
 pub enum Done {
     /// Well: status 0.

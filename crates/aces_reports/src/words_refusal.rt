@@ -7,7 +7,7 @@ ghost use Rattle.aces_reports.specs.WordsRefusals.{refusal_status, refusal_line}
 use crate::telling::say;
 use base_outside::Sink;
 
-/// Why the words behind the program's name are not there.
+/// Why the words behind the program's name are missing.
 #[derive(Clone, Copy)]
 pub enum WordsRefusal {
     /// One of them is no text.
@@ -16,7 +16,7 @@ pub enum WordsRefusal {
     NoMemory,
 }
 
-/// Puts the line on words that are not there, and answers the exit status: 2, as for words that are no request, or 6 for want
+/// Puts the line on missing words, and answers the exit status: 2, as for words that are no request, or 6 for want
 /// of memory. A fault of `err` changes no status. It takes no memory.
 pub fn refuse_words<E: Sink>(refusal: WordsRefusal, err: &mut E) -> u8
     ensures status { result ≡ refusal_status refusal }

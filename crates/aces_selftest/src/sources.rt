@@ -11,7 +11,7 @@ use std::alloc::{AllocError, Global};
 
 /// What a run of a source did.
 pub struct SourceCount {
-    /// How many steps it took, that by which it ended among them.
+    /// How many steps it took, with the one that ended it.
     pub steps: u32,
     /// Its accesses of peripherals, in order.
     pub events: Vec<Event>,

@@ -34,7 +34,7 @@ fn fault_line(kind: FaultKind) -> &'static [u8]
     }
 }
 
-/// The line of the end of a run of the source; of one that goes on, that of the limit.
+/// The line of the end of a run of the source; that of the limit where it goes on.
 fn source_end_line(end: Option<SourceEnd>) -> &'static [u8]
     ensures { result.now ≡ source_lines.end_line (seen_end end) }
 {
@@ -46,7 +46,7 @@ fn source_end_line(end: Option<SourceEnd>) -> &'static [u8]
     }
 }
 
-/// The line of the end of a run of the image; of one that goes on, that of the limit.
+/// The line of the end of a run of the image; that of the limit where it goes on.
 fn image_end_line(end: Option<End>) -> Line
     ensures { result ≡ machine_lines.end_line (unwrap_or end Limit) }
 {
@@ -70,7 +70,7 @@ fn same_line(one: &[u8], other: &[u8]) -> bool
     one == other
 }
 
-/// Puts how much of what the firmware has.
+/// Puts the counts of the firmware.
 fn put_firmware(
     text: &mut Text,
     functions: usize,
@@ -141,7 +141,7 @@ fn verdict_line(alike: bool) -> &'static [u8]
     if alike { b"same\n" } else { b"differ\n" }
 }
 
-/// How a command ends that tells so.
+/// The outcome of a self-test.
 fn done_by(alike: bool) -> Done
     ensures { status_of (Ok result) ≡ lines.verdict_status alike }
 {

@@ -50,7 +50,7 @@ fn within(
     Ok(answer)
 }
 
-/// The answer on the stack of a firmware on a board, its compartments being those of a policy.
+/// The answer on the stack of a firmware on a board, in the compartments of a policy.
 ///
 /// # Errors
 ///

@@ -1,4 +1,4 @@
-//! What `symbols` prints of a firmware: what is where in its image on a board, its compartments being those of a policy.
+//! What `symbols` prints of a firmware: what is where in its image on a board, in the compartments of a policy.
 #![tactic(auto)]
 
 mod telling;

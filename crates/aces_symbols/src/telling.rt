@@ -40,7 +40,7 @@ fn symbols_of_plan(
     symbols(alloc, &subject)
 }
 
-/// What is where in the image of a firmware on a board, its compartments being those of a policy.
+/// What is where in the image of a firmware on a board, in the compartments of a policy.
 ///
 /// # Errors
 ///

@@ -135,7 +135,7 @@ fn put_left(
     )
 }
 
-/// Puts the lines of where a run stands that ended so.
+/// Puts the lines of where a run stands, by its end.
 fn put_standing(
     text: &mut Text,
     firmware: &Firmware,
@@ -166,7 +166,7 @@ fn put_all(
     put_standing(text, firmware, run, end)
 }
 
-/// Where a run of a firmware stands, line by line, behind how many steps were made and how they ended. Where a step ended the run, it is to
+/// Where a run of a firmware stands, line by line, behind the number of steps made and their end. Where a step ended the run, it is to
 /// stand before that step.
 ///
 /// # Errors

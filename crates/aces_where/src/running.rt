@@ -13,7 +13,7 @@ use std::alloc::AllocError;
 /// How far a run came.
 #[derive(Clone, Copy)]
 pub(crate) struct Halt {
-    /// How many steps it goes on behind.
+    /// After how many steps it goes on.
     pub(crate) going: u32,
     /// How many steps were made, with the one that ended it.
     pub(crate) made: u32,

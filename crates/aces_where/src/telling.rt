@@ -28,7 +28,7 @@ use machine_devices::tape::Tape;
 use plan_model::Policy;
 use std::alloc::{AllocError, Global};
 
-/// How far a run of at most so many steps on a tape comes, its functions standing in these compartments.
+/// How far a run of at most so many steps on a tape comes, in these compartments.
 ///
 /// # Errors
 ///
@@ -50,7 +50,7 @@ fn halted(
     run_out(&mut run, steps)
 }
 
-/// The lines of where a run stands that came so far, before the step that ended it.
+/// The lines of where a run stands at a halt, before the step that ended it.
 ///
 /// # Errors
 ///
@@ -73,7 +73,7 @@ fn lines_of(
     place_lines(alloc, firmware.firmware(), &run, halt.made, halt.end)
 }
 
-/// The lines on a run of at most so many steps on a tape, its functions standing in these compartments. A run that has ended holds its end
+/// The lines on a run of at most so many steps on a tape, in these compartments. A run that has ended holds its end
 /// alone, so it is made a second time on the same tape, up to the step that ended it.
 ///
 /// # Errors

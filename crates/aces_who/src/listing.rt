@@ -16,7 +16,7 @@ use std::alloc::{AllocError, Global};
 ///
 /// # Errors
 ///
-/// There are more than 32 bits tell, which there are in no firmware.
+/// There are more than 32 bits tell, as in no firmware.
 fn counted(count: usize) -> Result<u32, AllocError>
     ensures { IfOk result (λ n. n ≡ count) }
 {

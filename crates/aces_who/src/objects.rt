@@ -28,7 +28,7 @@ fn first_function(groups: &Groups, compartment: u32) -> Option<usize>
         .position(|other| *other == compartment)
 }
 
-/// The file of a function; of one that is not there, 0.
+/// The file of a function; 0 for an absent one.
 fn file_of(program: &Program<'_>, func: usize) -> u32
     ensures { result ≡ resolved.file_of (program_of program.now) func }
 {
@@ -93,7 +93,7 @@ fn put_number(text: &mut Text, number: u32) -> Result<(), AllocError>
     text.put_decimal(u64::from(number))
 }
 
-/// Puts the compartments that stand so to an object, each behind a space.
+/// Puts the compartments that have a tie, each behind a space.
 fn put_tied(text: &mut Text, subject: &Subject<'_>, tie: Tie) -> Result<(), AllocError>
     requires { length subject.now.graph.now.groups.of ≡ length subject.now.needs.now.funcs }
     ensures { OnOk result (text.new ≡ text.old ++ lines.tied_text (subject_of subject.now) tie) }

@@ -55,7 +55,7 @@ fn lines_of(
     who_lines(alloc, &subject, policy)
 }
 
-/// What `who` prints of a firmware on a board, its compartments being those of a policy.
+/// What `who` prints of a firmware on a board, in the compartments of a policy.
 ///
 /// # Errors
 ///

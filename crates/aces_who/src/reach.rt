@@ -43,7 +43,7 @@ fn may_read(graph: &Final, compartment: u32, global: u32) -> bool
         && holds(region, global))
 }
 
-/// The window of a peripheral; of one that is not there, no address.
+/// The window of a peripheral; empty for an absent one.
 pub(crate) fn window_of(program: &Program<'_>, periph: u32) -> Span
     ensures { span_of result ≡ window_at (program_of program.now) periph }
 {
@@ -63,7 +63,7 @@ pub(crate) fn may_use(subject: &Subject<'_>, compartment: u32, periph: u32) -> b
         .any(|cover| is_covered(&window, cover))
 }
 
-/// Whether a compartment stands so to an object.
+/// Whether a compartment has a tie.
 #[tactic(auto, unfolding(plan_model::specs::Permission::may_write, plan_model::specs::Permission::may_read))]
 pub fn is_tied(subject: &Subject<'_>, tie: Tie, compartment: u32) -> bool
     requires { length subject.now.graph.now.groups.of ≡ length subject.now.needs.now.funcs }

@@ -34,7 +34,7 @@ pub(crate) fn objects_of<'a>(subject: &Subject<'a>, func: u32, register: usize) 
     row_at(rows_of(subject, func), register)
 }
 
-/// A flag by its number; of one that is not there it is not set.
+/// A flag by its number; an absent one is not set.
 fn flag_at(flags: &[bool], number: u32) -> bool
     ensures { result ≡ get_or flags.now number false }
 {

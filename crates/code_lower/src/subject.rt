@@ -78,7 +78,7 @@ fn push_lent(lent: &mut Vec<Lent>, start: u32, number: Option<u32>) -> Result<()
     }
 }
 
-/// Of the locals that begin there and have these numbers, those that are lent.
+/// The lent ones of the locals that begin there and have these numbers.
 #[tactic(auto, using(crate::proofs::Preparing::lending))]
 fn lent_among(
     alloc: Global,

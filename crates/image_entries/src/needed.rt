@@ -9,7 +9,7 @@ use base_lists::ListVec;
 use code_model::{Addresses, CallSite, Places};
 use std::alloc::{AllocError, Global};
 
-/// The same numbers.
+/// Copied numbers.
 fn copied(alloc: Global, numbers: &ListVec<u32>) -> Result<ListVec<u32>, AllocError>
     ensures { IfOk result (λ copy. copy ≡ numbers.now) }
 {
@@ -26,7 +26,7 @@ fn sites_of(numbers: &Numbers, func: usize) -> &[CallSite]
     }
 }
 
-/// Of each local of a function the number by which it is lent, if it is.
+/// The number by which each local of a function is lent, if it is.
 fn lends_of(numbers: &Numbers, func: usize) -> &[Option<u32>]
     ensures { result.now ≡ get_or numbers.now.lends func [] }
 {

@@ -20,11 +20,11 @@ use plan_model::limits::{LENT_LIMIT, SITE_LIMIT};
 use plan_model::needs::SiteNeed;
 use std::alloc::{AllocError, Global};
 
-/// Of each function, its calls that may go to another compartment, and the number of each of its locals that is lent.
+/// The calls of each function that may go to another compartment, and the numbers of the locals that it lends.
 pub struct Numbers {
     /// The calls of each function that may go to another compartment.
     pub sites: ListVec<ListVec<CallSite>>,
-    /// Of each local of each function, the number by which it is lent, if it is.
+    /// The number by which each local of each function is lent, if it is.
     pub lends: ListVec<ListVec<Option<u32>>>,
 }
 

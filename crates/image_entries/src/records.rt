@@ -28,7 +28,7 @@ pub fn entry_at(making: &Making, func: u32) -> Option<u32>
     Some(entries[place])
 }
 
-/// The address behind the SVC of a site, of which it is known how far behind its function's entry that stands.
+/// The address behind the SVC of a site, by how far that stands behind the entry of its function.
 fn return_address(making: &Making, site: &SiteNeed, offset: u32) -> Option<u32>
     requires ready { IsReady making.now }
     requires offset { offset ≡ offset_with (program_of making.now.program.now) making.now.numbers.now site.now.func site.now.block site.now.inst }

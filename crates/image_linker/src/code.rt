@@ -31,7 +31,7 @@ fn is_near(from: u32, to: u32, entry: u32) -> bool
     entry % 2 == 0 && entry < from + 0x10_0000 && to <= entry.saturating_add(0x10_0000)
 }
 
-/// Whether all entries are so.
+/// Whether each entry is near.
 fn are_near(from: u32, to: u32, entries: &[u32]) -> bool
     requires from { from < 2 ^ 31 }
     ensures { result ≡ true → AreNear from to entries.now }

@@ -178,7 +178,7 @@ fn tables(
 
 /// What an image is made of: the numbers of calls and of lent locals, where everything lies, and the monitor's tables.
 pub struct LinkParts {
-    /// Of each function, the numbers of its calls' sites and of its lent locals.
+    /// The numbers of each function's call sites and lent locals.
     pub numbers: Numbers,
     /// Where globals, windows and functions lie.
     pub addresses: Addresses,

@@ -27,7 +27,7 @@ pub fn page()
     first_halfword_shows_length();
 }
 
-/// What is read back of the two words that start-up begins with is the entry of `main` and its compartment.
+/// The two words that start-up begins with are read back as the entry of `main` and its compartment.
 pub fn main_words()
     ensures { MainIsMoved }
 {

@@ -20,12 +20,12 @@ pub fn guarded()
     memory();
 }
 
-/// So it is where the stack is the lowest block of RAM.
+/// A stack is guarded as the lowest block of RAM.
 pub fn lowest()
     ensures { LowestStacksAreGuarded }
 {}
 
-/// So it is where the board asks for the stack lowest in RAM, and where no other block of RAM is larger.
+/// A stack is guarded where the board asks for it lowest, and where no other block of RAM is larger.
 pub fn largest()
     ensures { LargestStacksAreGuarded }
 {
@@ -33,14 +33,14 @@ pub fn largest()
     stack();
 }
 
-/// And where the monitor's block lies right below the stack.
+/// A stack is guarded right behind the monitor's block.
 pub fn behind()
     ensures { StacksBehindMonitorsAreGuarded }
 {
     ram();
 }
 
-/// So the law of the stack holds of the planned image.
+/// The law of a guarded stack holds of planned images.
 pub fn stacks()
     ensures { GuardedStacksServe }
 {

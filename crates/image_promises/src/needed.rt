@@ -6,7 +6,7 @@ ghost use Rattle.image_promises.specs.Policy.{PlannedRunsStayInPolicy};
 use ir_laws::limits::windows;
 use need_laws::runs;
 
-/// What a compartment may write one of its functions needs: a global, where none is exposed; a lent local; and a peripheral, where no
+/// One of its functions needs what a compartment may write: a global, where none is exposed; a lent local; and a peripheral, where no
 /// ranges are joined.
 pub fn permissions_are_bounded()
     ensures { PlannedPermissionsAreBounded }
@@ -19,7 +19,7 @@ pub fn masks_are_needed()
     ensures { PlannedMasksAreNeeded }
 {}
 
-/// No step of a run of the source leaves the policy: what it stores to, the compartment of its function may write, or it is a local of
+/// No step of a run of the source leaves the policy: its function's compartment may write what it stores to, or that is a local of
 /// that function; on a closed board the same of what it loads; and a call goes to a target of its site.
 pub fn runs_stay_in_policy()
     ensures { PlannedRunsStayInPolicy }

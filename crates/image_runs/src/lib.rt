@@ -1,4 +1,4 @@
-//! What holds in the runs of a planned firmware's image: what stays in memory, what its board denies, and whatever code its compartments have.
+//! What holds in the runs of a planned firmware's image: what stays in memory and what its board denies, whatever code its compartments have.
 #![tactic(auto)]
 
 pub mod denied;

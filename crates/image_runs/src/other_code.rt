@@ -14,7 +14,7 @@ pub fn sound()
     ensures { SoundnessStays }
 {}
 
-/// So with the monitor's own code a sound image has all that every sound image has, whatever bytes stand in flash behind its tables, where
+/// A sound image with the monitor's own code has all that every sound image has, whatever bytes stand in flash behind its tables, where
 /// all code of compartments stands.
 pub fn stay_sound()
     ensures { SoundImagesStaySound }

@@ -43,7 +43,7 @@ pub fn sound_images_keep_promises()
     runs_keep_memory();
 }
 
-/// So is the image of a planned firmware, by the tables that it was linked with.
+/// A planned image does all that too, by the tables that it was linked with.
 pub fn planned_images_keep_promises()
     ensures { PlannedImagesKeepPromises }
 {
@@ -52,7 +52,7 @@ pub fn planned_images_keep_promises()
     sound_images_keep_promises();
 }
 
-/// In each of its runs the bytes of globals, of regions and of the stack are changed, and peripherals accessed, by compartments alone that
+/// In each of its runs the bytes of globals, of regions and of the stack are changed, and peripherals accessed, only by compartments that
 /// may, whatever bytes stand in flash behind its tables.
 pub fn planned_images_stay_isolated()
     ensures { PlannedImagesStayIsolated }

@@ -11,7 +11,7 @@ pub fn functions_stand()
     image_promises::code::code();
 }
 
-/// And so do those of each place of its blocks.
+/// The bytes of each place of a block do too.
 pub fn places_stand()
     ensures { PlacesStand }
 {

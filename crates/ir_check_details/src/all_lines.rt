@@ -114,7 +114,7 @@ fn put_all(
     }
 }
 
-/// What was found and what was expected, of a firmware of which a check of this kind fails at this place; no line where no more is known
+/// What was found and what was expected where a check of this kind fails at this place of a firmware; no line where no more is known
 /// than the check itself tells.
 ///
 /// # Errors

@@ -160,7 +160,7 @@ fn put_odd(out: &mut Vec<u8>, func: &Func) -> Result<(), AllocError>
     }
 }
 
-/// Puts the lines of the function of a name, of which a parameter, the result or a register is of no register type.
+/// Puts the lines of the function of a name, where a parameter, the result or a register is of no register type.
 pub(crate) fn put_func(
     out: &mut Vec<u8>,
     firmware: &Firmware,

@@ -1,4 +1,4 @@
-//! Of a firmware whose check fails, what was found and what was expected, line by line.
+//! What was found and expected where a check of a firmware fails, line by line.
 #![tactic(auto)]
 
 mod all_lines;

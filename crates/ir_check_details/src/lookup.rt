@@ -177,7 +177,7 @@ pub(crate) fn func_named<'s>(files: &'s [FileDecl], word: &[u8]) -> Option<&'s F
     }
 }
 
-/// The type of a register; of a name that no register has, `u32`.
+/// The type of a register; `u32` for a name that no register has.
 pub(crate) fn register_type<'a>(site: &Site<'a>, name: &Name) -> &'a Ty
     requires { site.now.number.now ≡ U32 }
     ensures { type_of result.now ≡ type_named (func_of site.now.func.now) name.now }

@@ -36,7 +36,7 @@ fn put_base(out: &mut Vec<u8>, base: u32, size: u32) -> Result<(), AllocError>
     put(out, b"\n")
 }
 
-/// Puts the lines of the peripheral of a name, of which the window is none.
+/// Puts the lines of the peripheral of a name, whose window is none.
 pub(crate) fn put_window(
     out: &mut Vec<u8>,
     periphs: &[Peripheral],

@@ -1,4 +1,4 @@
-//! Where a text is no further one of the grammar.
+//! Where a text leaves the grammar.
 
 ghost use Rattle.std.specs.Prelude.{◌≡◌, Some, None, false, IfOk, if◌then◌else◌};
 ghost use Rattle.ir_reader.specs.Found.{found_of, colon_first};
@@ -75,8 +75,8 @@ fn last_bytes(text: &[u8], left: usize) -> &[u8]
     last
 }
 
-/// The lines on the first place where a text is no further one of the grammar: the token that stands there, and which
-/// ones may. Nothing, where there is no such place.
+/// The lines on the first place where a text leaves the grammar: the token that stands there, and which
+/// ones may. Nothing where there is no such place.
 ///
 /// # Errors
 ///

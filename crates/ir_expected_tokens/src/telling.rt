@@ -1,4 +1,4 @@
-//! The lines on a place where a text is no further one of the grammar.
+//! The lines on a place where a text leaves the grammar.
 
 ghost use Rattle.std.specs.Prelude.{◌≡◌, ◌≤◌, ◌++◌, length, flat_map, reverse, IfOk, OnOk};
 ghost use Rattle.std.specs.List.{prefix_len};

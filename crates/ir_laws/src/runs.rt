@@ -4,7 +4,7 @@ ghost use Rattle.ir_laws.specs.Moves.{FramesMove};
 ghost use Rattle.ir_laws.specs.Runs.{ValuesStayInSets, ValuesFitTypes, StepsKeepValues, NumbersAreWords, PointersAreOfObjects, ElementsAreSmall, ContentsAreWhole, ReturnsAgreeWithCalls, AccessesAreInSets};
 
 /// In every state of a run each value fits its type, and each frame stands at a place of the program, the waiting ones at
-/// calls; so it is where, for each register, object and result, a set of objects is given that no step leaves.
+/// calls; the same holds by sets of objects for each register, object and result, where no step leaves them.
 pub fn values()
     ensures types { ValuesFitTypes }
     ensures sets { ValuesStayInSets }

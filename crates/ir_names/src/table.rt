@@ -68,21 +68,21 @@ impl<'a> Names<'a> {
         self.all.len()
     }
 
-    /// The first place of a word; none where it is not there.
+    /// The first place of a word; `None` if it is absent.
     pub fn find(&self, word: &[u8]) -> Option<usize>
         ensures { MatchOption result (has self.now word.now ≡ false) (λ k. (has self.now word.now ≡ true) × ((k ≡ number_of self.now word.now) × (k < length self.now))) }
     {
         self.places.get(word).copied()
     }
 
-    /// The first place of a name; none where it is not there.
+    /// The first place of a name; `None` if it is absent.
     pub fn number(&self, name: &Name) -> Option<usize>
         ensures { MatchOption result (has self.now name.now ≡ false) (λ k. (has self.now name.now ≡ true) × ((k ≡ number_of self.now name.now) × (k < length self.now))) }
     {
         self.find(name.as_slice())
     }
 
-    /// The first place of a word, or how many names there are where it is not there.
+    /// The first place of a word, or the number of names if it is absent.
     pub fn find_or_len(&self, word: &[u8]) -> usize
         ensures exact { result ≡ number_of self.now word.now }
         ensures most { result ≤ length self.now }
@@ -93,7 +93,7 @@ impl<'a> Names<'a> {
         }
     }
 
-    /// The first place of a name, or how many names there are where it is not there.
+    /// The first place of a name, or the number of names if it is absent.
     pub fn number_or_len(&self, name: &Name) -> usize
         ensures exact { result ≡ number_of self.now name.now }
         ensures most { result ≤ length self.now }

@@ -20,7 +20,7 @@ fn fault_line(kind: FaultKind) -> &'static [u8]
     }
 }
 
-/// The line of the end of a run; of one that has not ended, that of the limit.
+/// The line of the end of a run; that of the limit where it goes on.
 pub fn end_line(end: Option<SourceEnd>) -> &'static [u8]
     ensures { result.now ≡ runs.end_line (seen_end end) }
 {

@@ -57,7 +57,7 @@ impl From<Failed> for Broken {
     }
 }
 
-/// The run of a firmware on a tape before its first step, by its program of numbers, its functions standing in these compartments.
+/// The run of a firmware on a tape before its first step, by its program of numbers, in these compartments.
 ///
 /// # Errors
 ///
@@ -105,7 +105,7 @@ fn print_run<O: Sink>(
     print_events(&mut run, windows, steps, out)
 }
 
-/// Runs the source of a firmware on a tape for at most so many steps, by its program of numbers, its functions standing in these
+/// Runs the source of a firmware on a tape for at most so many steps, by its program of numbers, in these
 /// compartments. Puts the line of each event, and then that of the end, by one put each. Answers how it ended; none where it ran
 /// all the steps without an end.
 ///

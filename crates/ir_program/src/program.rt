@@ -13,7 +13,7 @@ pub struct Storage<'a> {
     pub ty: &'a Ty,
     /// How many bytes it has.
     pub size: u32,
-    /// Of how many bytes its address is a multiple.
+    /// How many bytes its address is a multiple of.
     pub align: u32,
     /// How many cells it has.
     pub cells: u32,

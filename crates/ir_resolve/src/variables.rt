@@ -18,7 +18,7 @@ use ir_program::program::Variable;
 use ir_program::value::Value;
 use std::alloc::{AllocError, Global};
 
-/// What a cell holds that a text gives.
+/// The value of a cell of a text.
 fn cell_value(scope: &Scope, cell: &Cell) -> Value
     requires { AreFew scope.now }
     ensures { value_of result ≡ resolving.value_of (scope_of scope.now) cell.now }

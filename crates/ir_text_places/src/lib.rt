@@ -1,4 +1,4 @@
-//! Where in the text of a firmware the item stands whose check fails.
+//! Where in the text of a firmware the item whose check fails stands.
 #![tactic(auto)]
 
 mod before;

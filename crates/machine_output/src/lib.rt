@@ -68,7 +68,7 @@ fn put_event<O: Sink>(out: &mut O, windows: &[Window], event: &Event) -> bool
     has_line(windows, event) && out.put(event_line(windows, event).as_slice()).is_ok()
 }
 
-/// Runs it, prints the line of each event, and answers the end. It is a refusal where a put failed.
+/// Runs a machine, prints each event's line, and answers the end: a refusal where a put failed.
 fn run_printed<O: Sink>(machine: &mut Machine, image: &Image, steps: u32, out: &mut O) -> End
     requires rules { ObeysRules image.now }
     requires image { machine.old.image ≡ image.now }
@@ -83,7 +83,7 @@ fn run_printed<O: Sink>(machine: &mut Machine, image: &Image, steps: u32, out: &
     machine.run(u64::from(steps), &mut put)
 }
 
-/// Runs it, prints the line of each event, and answers the end.
+/// Runs a machine, prints the events, and answers the end.
 fn print_events<O: Sink>(
     machine: &mut Machine,
     image: &Image,

@@ -71,7 +71,7 @@ fn put_told<O: Sink>(out: &mut O, windows: &[Window], told: Option<Event>) -> bo
     }
 }
 
-/// Whether the run goes on behind a step that paused so.
+/// Whether a step's pause lets the run go on.
 fn goes_on(pause: &Pause) -> bool
     ensures yes { IsTrue result → pause.now ≡ Ended Limit }
     ensures no { IsFalse result → pause.now ≢ Ended Limit }

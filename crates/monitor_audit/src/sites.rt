@@ -16,7 +16,7 @@ fn is_site(tables: &Tables, site: &SiteRecord) -> bool
         && u64::from(site.first) + u64::from(site.count) <= tables.targets.len() as u64
 }
 
-/// Whether it is an odd entry in the code of a compartment that there is.
+/// Whether an address is an odd entry in a compartment's code.
 fn is_entry(tables: &Tables, entry: u32, compartment: u32) -> bool
     ensures { result ≡ checks.is_entry tables.now entry compartment }
 {

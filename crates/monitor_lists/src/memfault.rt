@@ -46,7 +46,7 @@ fn widths(
     Ok(())
 }
 
-/// Where the mask has the bit of the loan's number r7 becomes 1.
+/// r7 becomes 1 where the mask has the bit of the loan's number.
 fn has_bit(alloc: Global) -> Result<StepList, AllocError>
     ensures { IfOk result (λ list. steps_of list.steps.items ≡ handler.has_bit) }
 {
@@ -226,7 +226,7 @@ fn lent_load(list: &mut StepList, c: &Numbers) -> Result<(), AllocError>
     Ok(())
 }
 
-/// On a closed board: a load by a loan; of another halfword the machine halts with 8.
+/// On a closed board: a load by a loan; at another halfword the machine halts with 8.
 fn closed_loads(alloc: Global, c: &Numbers) -> Result<StepList, AllocError>
     requires { c.now.slots ≤ 12 }
     ensures { IfOk result (λ list. steps_of list.steps.items ≡ handler.loads (constants_of c.now) true) }
@@ -239,7 +239,7 @@ fn closed_loads(alloc: Global, c: &Numbers) -> Result<StepList, AllocError>
     Ok(list)
 }
 
-/// Of no store: on an open board the machine halts with 8, on a closed one it may be a load.
+/// No store: the machine halts with 8 on an open board; on a closed one it may be a load.
 fn loads(alloc: Global, c: &Numbers) -> Result<StepList, AllocError>
     requires { c.now.slots ≤ 12 }
     ensures { IfOk result (λ list. steps_of list.steps.items ≡ handler.loads (constants_of c.now) c.now.closed) }

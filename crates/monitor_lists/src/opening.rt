@@ -164,7 +164,7 @@ fn stack_region(list: &mut StepList, c: &Numbers) -> Result<(), AllocError>
     Ok(())
 }
 
-/// Regions 2, 3 and the slots of compartment r5, TOP being in r3.
+/// Regions 2, 3 and the slots of compartment r5, with TOP in r3.
 pub fn tables_of(list: &mut StepList, c: &Numbers) -> Result<(), AllocError>
     requires { c.now.slots ≤ 12 }
     ensures { OnOk result (Appends list.old list.new (opening.tables_of (constants_of c.now))) }

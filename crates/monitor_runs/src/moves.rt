@@ -36,7 +36,7 @@ pub fn who_runs()
 }
 
 /// A call that crosses compartments, and has come back: whose code runs, how much of the stack is open, which calls wait and what is lent
-/// is all as it was before the call, and the caller goes on as the frame says that waited for it.
+/// is all as it was before the call, and the caller goes on as the frame that waited for it says.
 pub fn calls_come_back()
     ensures { WhoRunsComesBack }
 {}

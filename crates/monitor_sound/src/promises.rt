@@ -85,7 +85,7 @@ pub fn sound_images_serve_simulation()
     sound_laws_serve_simulation();
 }
 
-/// And the leave stub stands where the tables say.
+/// The leave stub stands where the tables say.
 pub fn stubs_stand()
     ensures { OfSoundImages monitor_code (λ i t. StubStands i t (stub_address t)) }
 {

@@ -71,7 +71,7 @@ impl<'a> Generator<'a> {
         }
     }
 
-    /// The type of a register; none where it is not there.
+    /// The type of a register; `None` if it is absent.
     pub(crate) fn type_at(&self, func: u32, register: usize) -> Option<&'a Ty>
         ensures { MatchOption result (register_type (program_of self.now.program.now) func register ≡ U32) (λ t. register_type (program_of self.now.program.now) func register ≡ type_of t.now) }
     {

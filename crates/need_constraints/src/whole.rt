@@ -110,7 +110,7 @@ impl<'a> Generator<'a> {
         }
     }
 
-    /// What the first so many of some values of a global ask.
+    /// What the first `count` of a global's values ask.
     fn put_values(
         &self,
         rules: &mut Rules<'a>,
@@ -127,7 +127,7 @@ impl<'a> Generator<'a> {
         Ok(())
     }
 
-    /// What the initial values ask of which the cells of a global are filled.
+    /// What the initial values in the cells of a global ask.
     fn put_global(&self, rules: &mut Rules<'a>, global: u32) -> Result<(), AllocError>
         requires global { global < length self.now.program.now.globals }
         requires counts { HasCounts self.now.program.now }

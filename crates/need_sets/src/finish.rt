@@ -31,7 +31,7 @@ fn named(alloc: Global, table: &[ObjId], places: &[u32]) -> Result<Vec<ObjId>, A
     each_once(objects)
 }
 
-/// The sets of which lists have the numbers.
+/// The sets of objects by their numbers.
 pub(crate) fn finish(alloc: Global, program: &Program, lists: &Rows) -> Result<PointsTo, AllocError>
     requires nodes { length lists.now ≡ sum (numbering_of (program_of program.now)).nodes }
     requires objects { IsWithin (sum (numbering_of (program_of program.now)).objects) lists.now }

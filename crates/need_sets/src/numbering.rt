@@ -85,7 +85,7 @@ impl Numbering {
         Ok(table)
     }
 
-    /// The number of an object; none where it is not there.
+    /// The number of an object; `None` if it is absent.
     pub fn object(&self, object: &ObjId) -> Option<u32>
         ensures { result ≡ object_number self.now (object_by object.now) }
     {
@@ -103,14 +103,14 @@ impl Numbering {
         }
     }
 
-    /// The number of the node that is the content of an object, by the object's number; none where the object is not there.
+    /// The number of the node that is the content of an object, by the object's number; `None` if the object is absent.
     pub fn content(&self, object: u32) -> Option<u32>
         ensures { result ≡ place_of self.now.nodes self.now.funcs object }
     {
         self.nodes.place(self.funcs as usize, object)
     }
 
-    /// The number of a node; none where it is not there.
+    /// The number of a node; `None` if it is absent.
     pub fn node(&self, node: &Node) -> Option<u32>
         ensures { result ≡ node_number self.now (node_by node.now) }
     {

@@ -40,7 +40,7 @@ impl Model for PointsTo {
 }
 
 impl PointsTo {
-    /// The sets of which each node has the objects of the list at its number, in rising order.
+    /// The sets in which each node has the objects of the list at its number, in rising order.
     pub fn new(numbering: Numbering, rows: SharedRows) -> PointsTo
         requires { AreInOrder rows }
         ensures { result ≡ record { numbers = numbering; rows = rows } }

@@ -42,7 +42,7 @@ pub enum Trigger<'a> {
         /// The parameter's place.
         place: u32,
     },
-    /// What the function gives that the object is, is passed on to a node, where it is of the type.
+    /// The function that the object is passes what it gives on to a node, where it is of the type.
     Outcome {
         /// The type of functions that are called.
         ty: &'a Ty,

@@ -153,7 +153,7 @@ impl SharedRows {
         Ok(())
     }
 
-    /// The objects of a row; a row that is not there has none.
+    /// The objects of a row; none for an absent one.
     pub(crate) fn row(&self, number: usize) -> &[ObjId]
         ensures { result.now ≡ get_or self.now number [] }
     {

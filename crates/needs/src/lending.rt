@@ -15,7 +15,7 @@ use need_lists::each_once;
 use plan_model::needs::FuncNeed;
 use std::alloc::{AllocError, Global};
 
-/// How many locals a function has; one that is not there has none.
+/// How many locals a function has; 0 for an absent one.
 fn local_count(program: &Program, func: usize) -> usize
     ensures { result ≡ length (func_at (program_of program.now) func).locals }
 {

@@ -106,7 +106,7 @@ fn planned_within_limits(
 }
 
 /// A firmware planned for a board: the final graph of its compartments, the sizes of its code and its tables, and where the blocks of
-/// its image lie. There is a need of each function and a compartment for it.
+/// its image lie. Each function has a need and a compartment.
 ///
 /// # Errors
 ///

@@ -68,7 +68,7 @@ fn grouped(alloc: Global, table: &[u32], facts: &[FuncFacts]) -> Result<Groups, 
     made
 }
 
-/// The compartments of a firmware by a policy, its functions needing so much.
+/// The compartments of a firmware by a policy and its functions' needs.
 ///
 /// # Errors
 ///

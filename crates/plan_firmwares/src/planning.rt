@@ -66,7 +66,7 @@ pub fn analyse(
     })
 }
 
-/// The same compartments.
+/// Copied compartments.
 fn copied(alloc: Global, groups: &Groups) -> Result<Groups, AllocError>
     ensures { IfOk result (λ made. made ≡ groups.now) }
 {

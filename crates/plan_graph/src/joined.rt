@@ -24,7 +24,7 @@ fn lowest(one: &Cover, other: &Cover) -> u64
     u64::from(one.base.min(other.base))
 }
 
-/// And their last.
+/// The last address of two covers.
 fn highest(one: &Cover, other: &Cover) -> u64
     ensures { result ≡ definition.highest one.now other.now }
 {

@@ -64,7 +64,7 @@ impl Drop for Graph {
 }
 
 impl Graph {
-    /// The same as the last graph of all joins.
+    /// The graph as the last one of all joins.
     pub fn into_final(self) -> Final
         ensures { result ≡ record { groups = self.groups; regions = self.regions; unwritten = self.unwritten; covers = self.covers; masks = self.masks; reads = self.reads } }
     {

@@ -12,7 +12,7 @@ pub const SITE_LIMIT: usize = 4096;
 /// The most targets of a crossing site.
 pub const TARGET_LIMIT: usize = 64;
 
-/// What there may be only so many of.
+/// What a limit counts.
 #[derive(Clone, Copy)]
 pub enum LimitKind {
     /// Compartments.

@@ -16,7 +16,7 @@ use plan_graph::{reaches, writes};
 use plan_model::graph::DataRegion;
 use std::alloc::AllocError;
 
-/// The bytes of a global; of one that is not there, 0.
+/// The bytes of a global; 0 for an absent one.
 pub fn global_size(program: &Program<'_>, global: u32) -> u32
     ensures { result ≡ regions.global_size (program_of program.now) global }
 {
@@ -30,7 +30,7 @@ pub fn global_size(program: &Program<'_>, global: u32) -> u32
 ///
 /// # Errors
 ///
-/// The sum has more than 64 bits, which that of no firmware has.
+/// The sum has more than 64 bits, as in no firmware.
 pub(crate) fn sum(a: u64, b: u64) -> Result<u64, AllocError>
     ensures { IfOk result (λ n. n ≡ a + b) }
 {

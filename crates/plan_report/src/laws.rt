@@ -2,7 +2,7 @@
 
 ghost use Rattle.plan_report.specs.Undeclared.{UndeclaredRangesAreExact};
 
-/// An address of a range of peripherals that no line `undeclared` has, a declared peripheral has; and one that such a line has, none has.
+/// A declared peripheral has each address of a range of peripherals that no line `undeclared` has, and none that such a line has.
 pub fn undeclared_ranges_are_exact()
     ensures { UndeclaredRangesAreExact }
 {}

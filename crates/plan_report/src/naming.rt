@@ -25,7 +25,7 @@ fn func_in(files: &[FileDecl], number: usize) -> Option<&Func>
     }
 }
 
-/// Puts the name of a function; of one that is not there, no byte.
+/// Puts the name of a function; nothing for an absent one.
 ///
 /// # Errors
 ///
@@ -39,7 +39,7 @@ pub fn put_func(text: &mut Text, firmware: &Firmware, func: u32) -> Result<(), A
     }
 }
 
-/// The name of the binding of a number; of one that is not there, no byte.
+/// The name of the binding of a number; empty for an absent one.
 #[tactic(auto, using(crate::proofs::Named::binding_found, crate::proofs::Named::binding_missing))]
 fn binding_name(bindings: &[Binding], number: usize) -> &[u8]
     ensures { result.now ≡ get_or (names_of (map binding_of bindings.now)) number [] }
@@ -51,14 +51,14 @@ fn binding_name(bindings: &[Binding], number: usize) -> &[u8]
     }
 }
 
-/// The name of a function's local; of one that is not there, no byte.
+/// The name of a function's local; empty for an absent one.
 fn local_name(func: &Func, local: u32) -> &[u8]
     ensures { result.now ≡ get_or (names.names_in (func_of func.now)).locals local [] }
 {
     binding_name(func.locals.as_slice(), local as usize)
 }
 
-/// The name of a function's register, its parameters first; of one that is not there, no byte.
+/// The name of a function's register, its parameters first; empty for an absent one.
 #[tactic(auto, using(crate::proofs::Named::is_param, crate::proofs::Named::is_register))]
 fn register_name(func: &Func, register: usize) -> &[u8]
     ensures { result.now ≡ get_or (names.names_in (func_of func.now)).registers register [] }
@@ -71,7 +71,7 @@ fn register_name(func: &Func, register: usize) -> &[u8]
     }
 }
 
-/// Puts the name of a function's register; of one that is not there, no byte.
+/// Puts the name of a function's register; nothing for an absent one.
 ///
 /// # Errors
 ///
@@ -90,7 +90,7 @@ pub fn put_register(
     }
 }
 
-/// Puts the name of a function's local; of one that is not there, no byte.
+/// Puts the name of a function's local; nothing for an absent one.
 ///
 /// # Errors
 ///
@@ -109,7 +109,7 @@ pub fn put_local(
     }
 }
 
-/// The label of a function's block; of one that is not there, no byte.
+/// The label of a function's block; empty for an absent one.
 #[tactic(auto, using(crate::proofs::Named::label_found, crate::proofs::Named::label_missing))]
 fn label_in(func: &Func, block: usize) -> &[u8]
     ensures { result.now ≡ get_or (names.names_in (func_of func.now)).labels block [] }
@@ -122,7 +122,7 @@ fn label_in(func: &Func, block: usize) -> &[u8]
     }
 }
 
-/// Puts the label of a function's block; of one that is not there, no byte.
+/// Puts the label of a function's block; nothing for an absent one.
 ///
 /// # Errors
 ///
@@ -141,7 +141,7 @@ pub fn put_label(
     }
 }
 
-/// The name of a global; of one that is not there, no byte.
+/// The name of a global; empty for an absent one.
 #[tactic(auto, using(crate::proofs::Named::global_found, crate::proofs::Named::global_missing))]
 pub fn global_name(firmware: &Firmware, global: u32) -> &[u8]
     ensures { result.now ≡ names.global_name (firmware_of firmware.now) global }
@@ -166,7 +166,7 @@ pub fn put_global(text: &mut Text, firmware: &Firmware, global: u32) -> Result<(
     text.put(global_name(firmware, global))
 }
 
-/// The name of a file; of one that is not there, no byte.
+/// The name of a file; empty for an absent one.
 #[tactic(auto, using(crate::proofs::Named::file_found, crate::proofs::Named::file_missing))]
 pub fn file_name(firmware: &Firmware, file: u32) -> &[u8]
     ensures { result.now ≡ names.file_name (firmware_of firmware.now) file }
@@ -179,7 +179,7 @@ pub fn file_name(firmware: &Firmware, file: u32) -> &[u8]
     }
 }
 
-/// The name of a peripheral; of one that is not there, no byte.
+/// The name of a peripheral; empty for an absent one.
 pub fn periph_name(firmware: &Firmware, periph: usize) -> &[u8]
     ensures { result.now ≡ names.periph_name (firmware_of firmware.now) periph }
 {

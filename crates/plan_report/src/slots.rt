@@ -182,7 +182,7 @@ pub fn cover_at(covers: &[Cover], place: usize) -> Cover
     }
 }
 
-/// The covers of a compartment, in order of their bases; of one that is not there, none.
+/// The covers of a compartment, in order of their bases; none for an absent one.
 pub fn covers_of(graph: &Final, compartment: u32) -> &[Cover]
     ensures { result.now ≡ get_or graph.now.covers compartment [] }
 {

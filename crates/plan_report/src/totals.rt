@@ -25,7 +25,7 @@ struct Counts {
 ///
 /// # Errors
 ///
-/// The sum has more than 64 bits, which that of no firmware has.
+/// The sum has more than 64 bits, as in no firmware.
 fn counted(groups: &Groups, calls: &[SiteNeed]) -> Result<Counts, AllocError>
     ensures sites { IfOk result (λ c. c.sites ≡ length (filter (crossing.crosses groups.now) calls.now)) }
     ensures targets { IfOk result (λ c. c.targets ≡ crossing.target_count (filter (crossing.crosses groups.now) calls.now)) }

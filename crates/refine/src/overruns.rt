@@ -18,7 +18,7 @@ pub fn guards_refuse()
     threads_reach();
 }
 
-/// So the law of the stack holds.
+/// A guarded stack's law holds.
 pub fn guards_serve()
     ensures { GuardsServe }
 {
@@ -34,7 +34,7 @@ pub fn entries_without_room_stop()
     ensures { EntriesWithoutRoomStop }
 {}
 
-/// So does an SVC below which no frame of an exception fits.
+/// An SVC below which no exception's frame fits does too.
 pub fn calls_without_room_stop()
     ensures { CallsWithoutRoomStop }
 {}

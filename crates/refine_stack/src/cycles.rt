@@ -8,7 +8,7 @@ ghost use Rattle.refine_stack.specs.Far.{near, IsMarked, IsLevel, AreFar, IsLowe
 use crate::calls::Call;
 use std::alloc::{AllocError, Global};
 
-/// Whether from a call's target so many calls more come to the last function.
+/// Whether `more` further calls lead from a call's target to `to`.
 fn is_near(far: &[u32], to: usize, more: u32, call: Call) -> bool
     requires { call.to < length far.now }
     ensures { result ≡ near far.now to more call }
@@ -36,7 +36,7 @@ fn mark(far: &mut [u32], to: usize, more: u32, call: Call) -> bool
     true
 }
 
-/// Does so for each call; whether it did for any.
+/// Marks by each call; whether it did by any.
 fn level(far: &mut [u32], calls: &[Call], to: usize, more: u32) -> bool
     requires there { AreThere (length far.old) calls.now }
     requires more { more + 1 < 2 ^ 32 }

@@ -1,4 +1,4 @@
-//! The most that call paths take that end in a function.
+//! The most that call paths to a function take.
 
 ghost use Rattle.std.specs.Prelude.{◌≡◌, ◌≤◌, ◌<◌, length, get_or, slice_index, IfSome, IfOk, OnOk};
 ghost use Rattle.refine_stack.specs.Paths as paths;
@@ -60,7 +60,7 @@ fn relax(taken: &mut [u32], frames: &[u32], stack: u32, call: Call) -> Result<bo
     }
 }
 
-/// Does so by each call; whether any number was lower.
+/// Relaxes each call; whether any number was lower.
 fn round(
     taken: &mut [u32],
     frames: &[u32],
@@ -81,7 +81,7 @@ fn round(
     Ok(changed)
 }
 
-/// Does so until no number is lower.
+/// Runs rounds until none is lower.
 fn settle(
     taken: &mut [u32],
     frames: &[u32],
@@ -105,7 +105,7 @@ fn settle(
     Err(AllocError)
 }
 
-/// The most that a path takes that ends in each function, 0 where none does. Without a cycle of calls there is such a number, after as many
+/// The most that a path to each function takes, 0 where there is none. Without a cycle of calls there is such a number, after as many
 /// rounds as a path has functions.
 pub(crate) fn deepest(
     alloc: Global,

@@ -55,7 +55,7 @@ fn lowered(
     }
 }
 
-/// The lowest-numbered function of which a call gives a function its number; as many as there are where none does.
+/// The lowest-numbered function whose call gives a function its number; as many as there are where none does.
 fn before(
     calls: &[Call],
     frames: &[u32],
@@ -76,7 +76,7 @@ fn before(
     Ok(least)
 }
 
-/// The bound by what paths take that end in each function.
+/// The bound by what paths to each function take.
 pub(crate) fn worst_path(
     alloc: Global,
     calls: &[Call],

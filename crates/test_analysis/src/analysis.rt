@@ -67,7 +67,7 @@ fn answer(alloc: Global, words: &[String], files: &mut MemFiles) -> Result<Strin
     analysed(alloc, &checked, words)
 }
 
-/// The policy of a word; where it is none, that of the files.
+/// The policy of a word; that of the files where it is none.
 fn policy_of(word: &str) -> Policy {
     match word {
         "optimized" => Policy::Optimized,

@@ -38,7 +38,7 @@ struct Way {
     entry: u32,
     /// How many steps come before the program's first.
     before: u64,
-    /// Where the program stands that is run.
+    /// Where the program that is run stands.
     program: u32,
 }
 

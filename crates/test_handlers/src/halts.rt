@@ -62,7 +62,7 @@ const CASES: &[Case] = &[
         frame: [10, MONITOR, 12, 13, ENTRY, 13, 0x0800_201c, 0x8100_0000] },
 ];
 
-/// That RAM has these words from an address on.
+/// Checks the words of RAM from an address on.
 fn check_words(rt: &impl Abort, machine: &Machine, from: u32, words: &[u32], halt: u8) {
     let mut address = from;
     for expected in words {

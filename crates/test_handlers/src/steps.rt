@@ -22,7 +22,7 @@ const CALLS: &[u32] = &[
 /// BX lr
 const RETURNS: &[u32] = &[0xbf00_4770];
 
-/// Those of lend, unlend, enter by a site of one target, and leave, with four slots.
+/// The steps of lend, unlend, enter by a site of one target, and leave with 4 slots.
 const STEPS: [u32; 4] = [109, 58, 230, 148];
 
 /// Steps until a handler begins.
