@@ -8,6 +8,7 @@ use Rattle.plan_board.specs.declared.fault.BoardFault.TheVariants.{NoMemory, Not
 use Rattle.plan_board.specs.Keys.{path_of}
 use Rattle.aces_explain.specs.KeyLines.{lines_of, key_line}
 use Rattle.aces_explain.specs.BoardRules.{rule_of}
+use Rattle.aces_explain.specs.Explanations.{rule_line}
 
 -- ---- a fault
 
@@ -61,9 +62,6 @@ head_line name place e = name ++ place_text place ++ codes ": " ++ words_of e ++
 abbrev pub shown_line : List (List ℕ) → Option ℕ → List ℕ
 shown_line lines None = []
 shown_line lines (Some k) = shown (get_or lines k []) ++ line_feed
-
-abbrev pub rule_line : (rule : List ℕ) → List ℕ
-rule_line rule = codes "rule " ++ rule ++ line_feed
 
 -- ---- all of it
 

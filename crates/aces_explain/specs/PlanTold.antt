@@ -22,10 +22,8 @@ use Rattle.aces_reports.specs.FaultLines.{compiled_word, memory_word, compartmen
 use Rattle.plan.specs.declared.refusal.PlanningRefusal.{PlanningRefusal}
 use Rattle.plan.specs.declared.refusal.PlanningRefusal.TheVariants.{NoMemory, Limit, Denied, Room}
 use Rattle.aces_explain.specs.Blocks.{ram_lines, flash_lines}
+use Rattle.aces_explain.specs.Explanations.{rule_line}
 use Rattle.aces_explain.specs.PlanRules.{limit_of, limit_rule, denied_rule, flash_rule, ram_rule}
-
-abbrev pub rule_line : (rule : List ℕ) → List ℕ
-rule_line rule = codes "rule " ++ rule ++ line_feed
 
 -- ---- a limit, and what is denied
 

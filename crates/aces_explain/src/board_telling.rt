@@ -3,6 +3,7 @@
 ghost use Rattle.std.specs.Prelude.{◌≡◌, ◌++◌, [], get_or, map, option_map, IfOk, OnOk};
 ghost use Rattle.aces_explain.specs.BoardRules.{rule_of};
 ghost use Rattle.aces_explain.specs.BoardTold as told;
+ghost use Rattle.aces_explain.specs.Explanations.{rule_line};
 
 use crate::board_rules::put_rule;
 use crate::key_lines::{key_line, lines};
@@ -134,7 +135,7 @@ fn put_shown(text: &mut Text, lines: &[&[u8]], place: Option<usize>) -> Result<(
 
 /// Puts the line on the rule that a text breaks.
 fn put_rule_line(text: &mut Text, fault: &BoardFault) -> Result<(), AllocError>
-    ensures { OnOk result (text.new ≡ text.old ++ told.rule_line (rule_of fault.now)) }
+    ensures { OnOk result (text.new ≡ text.old ++ rule_line (rule_of fault.now)) }
 {
     text.put(b"rule ")?;
     put_rule(text, fault)?;

@@ -2,6 +2,7 @@
 
 ghost use Rattle.std.specs.Prelude.{◌≡◌, ◌++◌, OnOk};
 ghost use Rattle.aces_reports.specs.FaultLines.{compiled_word};
+ghost use Rattle.aces_explain.specs.Explanations.{rule_line};
 ghost use Rattle.aces_explain.specs.PlanRules as rules;
 ghost use Rattle.aces_explain.specs.PlanTold as told;
 
@@ -89,7 +90,7 @@ pub(crate) fn denied_rule(asked: Asked) -> &'static [u8]
 
 /// Puts the line on the rule of blocks of flash.
 pub(crate) fn put_flash_rule(text: &mut Text) -> Result<(), AllocError>
-    ensures { OnOk result (text.new ≡ text.old ++ told.rule_line rules.flash_rule) }
+    ensures { OnOk result (text.new ≡ text.old ++ rule_line rules.flash_rule) }
 {
     put_rule(
         text,
@@ -111,7 +112,7 @@ fn lowest_rule(lowest: Lowest) -> &'static [u8]
 
 /// Puts the line on a rule that is told by two texts.
 fn put_rules(text: &mut Text, first: &[u8], second: &[u8]) -> Result<(), AllocError>
-    ensures { OnOk result (text.new ≡ text.old ++ told.rule_line (first.now ++ second.now)) }
+    ensures { OnOk result (text.new ≡ text.old ++ rule_line (first.now ++ second.now)) }
 {
     text.put(b"rule ")?;
     text.put(first)?;
@@ -121,7 +122,7 @@ fn put_rules(text: &mut Text, first: &[u8], second: &[u8]) -> Result<(), AllocEr
 
 /// Puts the line on the rule of blocks of RAM.
 pub(crate) fn put_ram_rule(text: &mut Text, lowest: Lowest) -> Result<(), AllocError>
-    ensures { OnOk result (text.new ≡ text.old ++ told.rule_line (rules.ram_rule lowest)) }
+    ensures { OnOk result (text.new ≡ text.old ++ rule_line (rules.ram_rule lowest)) }
 {
     put_rules(
         text,

@@ -2,6 +2,7 @@
 
 ghost use Rattle.std.specs.Prelude.{◌≡◌, ◌++◌, OnOk};
 ghost use Rattle.aces_reports.specs.FaultLines.{compartment_word, bytes_text};
+ghost use Rattle.aces_explain.specs.Explanations.{rule_line};
 ghost use Rattle.aces_explain.specs.PlanTold as told;
 
 use aces_reports::memory_word;
@@ -11,7 +12,7 @@ use std::alloc::AllocError;
 
 /// Puts the line on a rule.
 pub(crate) fn put_rule(text: &mut Text, rule: &[u8]) -> Result<(), AllocError>
-    ensures { OnOk result (text.new ≡ text.old ++ told.rule_line rule.now) }
+    ensures { OnOk result (text.new ≡ text.old ++ rule_line rule.now) }
 {
     text.put(b"rule ")?;
     text.put(rule)?;

@@ -3,17 +3,9 @@ use Rattle.std.specs.Prelude.{option_to_list}
 use Rattle.std.proofs.Common.{◌≡◌, ℕ, ◌+◌, ◌<◌, ◌≤◌, List, [], ◌∷◌, ◌++◌, Option, Some, None, inl, inr, refl, ap, sym, ◌∙◌, arith, append-nil}
 use Rattle.std.proofs.Math.Nat.{eq-or-lt_of_le}
 use Rattle.base_words.specs.Runs.{run, events}
-use Rattle.base_words.proofs.Runs.{run_none, events-add}
+use Rattle.base_words.proofs.Runs.{run_none, events_none, events_one, events-add}
 use Rattle.base_words.proofs.EventLines.{run_behind}
 use Rattle.aces_selftest.specs.TakesSteps.{TakesSteps}
-
-events_none : {S X : Type 0} (step : S → S) (event : S → Option X) (s : S) → events step event 0 s ≡ []
-unfolding events
-events_none step event s = refl
-
-events_one : {S X : Type 0} (step : S → S) (event : S → Option X) (s : S) → events step event 1 s ≡ option_to_list (event s)
-unfolding events
-events_one step event s = append-nil (option_to_list (event s))
 
 events_behind : {S X : Type 0} (step : S → S) (event : S → Option X) (n : ℕ) (s : S)
     → events step event (n + 1) s ≡ events step event n s ++ option_to_list (event (run step n s))

@@ -31,14 +31,11 @@ use Rattle.monitor_confined.proofs.Changes.{top_below}
 use Rattle.monitor_confined.proofs.EnterLaw.{both}
 use Rattle.machine_bus.proofs.Ranges.{inside_true as inside_is}
 use Rattle.base_laws.proofs.Lists.{each_at}
+use Rattle.base_laws.proofs.Tests.{is_false}
 use Rattle.monitor_model.proofs.Multiples.{divides}
 use Rattle.machine_protection.proofs.Configured.{closed_byte}
 
 -- ---- which of a list of regions is the last that holds an address
-
-is_false : (b : Bool) → (b ≡ true → ⊥) → b ≡ false
-is_false true f = absurd (f refl)
-is_false false f = refl
 
 last_or_none : (gs : List Region) (a : ℕ) → NoneOf gs a ⊎ ((g : Region) × IsLast gs a g)
 last_or_none [] a = inl tt

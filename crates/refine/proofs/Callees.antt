@@ -24,7 +24,7 @@ use Rattle.code_effects.specs.Calls.{AllBelow}
 use Rattle.code_effects.proofs.Registers.{holds_nothing, known_holds}
 use Rattle.refine.specs.CodeLaws.{CodeLaws}
 use Rattle.refine.specs.Owned.{owner, Owns, MemoryRules}
-use Rattle.refine.proofs.Thread.{call_owned, runs_here, room, fits_after, fits_sp, stays_at, stays_on}
+use Rattle.refine.proofs.Thread.{one_part, call_owned, runs_here, room, fits_after, fits_sp, stays_at, stays_on}
 use Rattle.refine.specs.Begun.{Filled}
 use Rattle.refine.proofs.ThreadCalls.{frame_words, frame_words_fit}
 use Rattle.refine.specs.Ends.{NoEighth}
@@ -37,10 +37,6 @@ use Rattle.refine.proofs.Lends.{later, sooner, behind, halted, entered as enters
 -- no whole part of a distance is left, or one is
 no_part : (d e : ℕ) → (d / e ≡ 0) ⊎ (1 ≤ d / e)
 no_part d e = ⊎_elim (λ h. inl (omega (arith, h))) (λ h. inr h) (cases_lt (d / e) 1)
-
-one_part : (k e : ℕ) → 1 ≤ k → e ≤ k * e
-one_part zero e h = absurd (omega (arith, h))
-one_part (suc k) e h = let m = suc-mul k e in omega (arith, m)
 
 module _ (g : Setting) (Inv : MonitorBlock → Context → List ℕ → Type 0) (law : Law g Inv) (rules : MemoryRules g) (laws : CodeLaws) where
   module _ (fn : NumberedFunc) (q : Places) (labels : List (Option ℕ)) (w : ℕ) where

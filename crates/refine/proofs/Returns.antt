@@ -1,6 +1,6 @@
 -- Returns: within a compartment, across, and from `main`.
 use Rattle.std.proofs.Common.{◌≡◌, ℕ, zero, suc, ◌+◌, ◌-◌, ◌*◌, ◌/◌, ◌%◌, ◌^◌, ◌<◌, ◌≤◌, Option, Some, None, is_some, List, [], ◌∷◌, ◌++◌, length, get_or, refl, sym, ap, ◌∙◌, subst, arith, inl, inr, ⊎_elim}
-use Rattle.std.proofs.Math.Nat.{div-mul-le_self, suc-mul}
+use Rattle.std.proofs.Math.Nat.{div-mul-le_self}
 use Rattle.std.proofs.lemmas.Bool.{cases_lt}
 use Rattle.std.proofs.lemmas.List.{length-map}
 use Rattle.base_words.specs.Bytes.{read, cut}
@@ -30,7 +30,7 @@ use Rattle.code_effects.proofs.Registers.{holds_known}
 use Rattle.refine.specs.Areas.{Area, Has as MemoryHas}
 use Rattle.refine.specs.Owned.{Owns, all_lent}
 use Rattle.refine.proofs.Areas.{has_front, has_rest}
-use Rattle.refine.proofs.Thread.{to_sp, fits_sp, started, has_stays, fits_after}
+use Rattle.refine.proofs.Thread.{one_part, to_sp, fits_sp, started, has_stays, fits_after}
 use Rattle.refine.proofs.ThreadReturns.{result_below_more, IsResult, returns, leaves}
 use Rattle.refine.specs.Builds.{Build, compartment_of, func, words_at, starts_at, lends_at, places_at, labels_at, first_at, code_at, behind_at, site_at}
 use Rattle.refine.specs.Relation.{own, homes, objects_at, object_words, word_of, words_of, own_words, link_by, waiting_by, waiting_words, statuses_behind, first_or_zero, others, IsStatusBy, Wait, areas, held, ceiling_by, beneath, block_of, AllFit, IsWhole}
@@ -66,10 +66,6 @@ even_call (Some n) args = omega arith
 even_icall : (x : Option ℕ) (args : List ℕ) → icall_size (is_some x) args % 2 ≡ 0
 even_icall None args = omega arith
 even_icall (Some n) args = omega arith
-
-one_part : (n e : ℕ) → 1 ≤ n → e ≤ n * e
-one_part zero e h = absurd (omega (arith, h))
-one_part (suc n) e h = let m = suc-mul n e in omega (arith, m)
 
 whole_part : (n e s : ℕ) → s < s + n * e → 1 ≤ n
 whole_part zero e s h = let z : 0 * e ≡ 0 = omega arith in absurd (omega (arith, h, z))

@@ -1,5 +1,6 @@
 -- What the law gives a running thread: code that may be fetched, stack that may be used, and what stays.
-use Rattle.std.proofs.Common.{◌≡◌, ℕ, ◌+◌, ◌*◌, ◌%◌, ◌≤◌, List, [], ◌∷◌, true, Option, refl, ◌∙◌, subst, arith, inl, inr, ⊎_elim}
+use Rattle.std.proofs.Common.{◌≡◌, ℕ, zero, suc, ◌+◌, ◌*◌, ◌%◌, ◌≤◌, List, [], ◌∷◌, true, Option, refl, ◌∙◌, subst, arith, inl, inr, ⊎_elim, absurd}
+use Rattle.std.proofs.Math.Nat.{suc-mul}
 use Rattle.base_words.specs.Bytes.{read}
 use Rattle.base_words.specs.declared.conditions.Flags.{Flags}
 use Rattle.machine_thumb.specs.declared.table.Code.{Code}
@@ -30,6 +31,11 @@ use Rattle.refine.specs.CodeLaws.{CodeLaws}
 use Rattle.refine.specs.Owned.{owner, Owns, MemoryRules}
 use Rattle.refine.proofs.Areas.{has_alike}
 use Rattle.code_effects.proofs.Kept.{Kept}
+
+-- one part of several is no more than all of them
+pub one_part : (n e : ℕ) → 1 ≤ n → e ≤ n * e
+one_part zero e h = absurd (omega (arith, h))
+one_part (suc n) e h = let m = suc-mul n e in omega (arith, m)
 
 -- parts of a state written in another way
 pub at_pc : (g : Setting) (k : ℕ) (s : State) (x : Context) (low : List ℕ) (sp lr pc to : ℕ) (f : Flags) (ram : List ℕ) (queues : List (List ℕ)) (es : List Event) → pc ≡ to →

@@ -1,7 +1,7 @@
 use Rattle.std.proofs.Common.{ℕ, List, ◌++◌, ap, ◌∙◌}
 use Rattle.std.proofs.lemmas.Result.{on_ok_weaker}
 use Rattle.aces_explain.specs.PlanRules.{blocks_rule}
-use Rattle.aces_explain.specs.PlanTold.{rule_line}
+use Rattle.aces_explain.specs.Explanations.{rule_line}
 use Rattle.aces_explain.proofs.plan_rules.put_ram_rule.Goals as goal
 
 pub returns : goal.returns
