@@ -1,5 +1,5 @@
 -- What the law gives a running thread: code that may be fetched, stack that may be used, and what stays.
-use Rattle.std.proofs.Common.{◌≡◌, ℕ, zero, suc, ◌+◌, ◌*◌, ◌%◌, ◌≤◌, List, [], ◌∷◌, true, Option, refl, ◌∙◌, subst, arith, inl, inr, ⊎_elim, absurd}
+use Rattle.std.proofs.Common.{◌≡◌, ℕ, zero, suc, ◌+◌, ◌*◌, ◌%◌, ◌≤◌, List, [], ◌∷◌, true, Option, refl, ◌∙◌, subst, arith, inl, inr, ⊎_elim}
 use Rattle.std.proofs.Math.Nat.{suc-mul}
 use Rattle.base_words.specs.Bytes.{read}
 use Rattle.base_words.specs.declared.conditions.Flags.{Flags}
