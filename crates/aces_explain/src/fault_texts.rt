@@ -4,33 +4,11 @@ ghost use Rattle.std.specs.Prelude.{◌≡◌, ◌++◌, OnOk};
 ghost use Rattle.aces_reports.specs.FaultLines as lines;
 ghost use Rattle.aces_explain.specs.Explanations as explanations;
 
+use aces_reports::limit_word;
 use ir_model::check::{CheckKind, CheckPlace};
-use ir_model::token::{Excess, TextLimit};
+use ir_model::token::Excess;
 use plan_report::text::Text;
 use std::alloc::AllocError;
-
-/// What passes a limit of texts.
-fn limit_word(which: TextLimit) -> &'static [u8]
-    ensures { result.now ≡ lines.limit_word which }
-{
-    match which {
-        TextLimit::Name => b"name",
-        TextLimit::Struct => b"struct",
-        TextLimit::Field => b"field",
-        TextLimit::Depth => b"depth",
-        TextLimit::Array => b"array",
-        TextLimit::Cell => b"cell",
-        TextLimit::Periph => b"periph",
-        TextLimit::Global => b"global",
-        TextLimit::File => b"file",
-        TextLimit::Function => b"function",
-        TextLimit::Param => b"param",
-        TextLimit::Register => b"register",
-        TextLimit::Local => b"local",
-        TextLimit::Block => b"block",
-        TextLimit::Instruction => b"instruction",
-    }
-}
 
 /// Puts two texts.
 fn put_both(text: &mut Text, first: &[u8], second: &[u8]) -> Result<(), AllocError>

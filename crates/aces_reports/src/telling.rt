@@ -126,7 +126,7 @@ fn say_placed<E: Sink>(err: &mut E, name: &[u8], pos: Pos, text: &[u8])
 }
 
 /// What passes a limit of texts.
-fn limit_word(which: TextLimit) -> &'static [u8]
+pub fn limit_word(which: TextLimit) -> &'static [u8]
     ensures { result.now ≡ lines.limit_word which }
 {
     match which {
