@@ -1,7 +1,7 @@
 #!/usr/bin/env python3
 """What there is to read behind the claim of the program's one call: the definitions that its clauses reach.
 
-    tools/claim_reach.py files     # each crate's files, lowest crates first, with the lines reached, comments not counted
+    tools/claim_reach.py files     # each crate's files, in the order of crates.txt, with the lines reached, comments not counted
     tools/claim_reach.py names     # the same, with the names of the definitions
     tools/claim_reach.py beyond    # the files of definitions of which the claim reaches nothing
     tools/claim_reach.py mark      # has the first line of each of these files say so, and of no other
@@ -14,11 +14,11 @@ a definition counts as that, so a little too much may be listed, and nothing too
 
 import functools
 import glob
-import graphlib
 import os
 import re
 import sys
 import textwrap
+from collections.abc import Iterator
 
 CRATES = os.path.join(os.path.dirname(os.path.abspath(__file__)), "..", "crates")
 CLAIM = "aces_cli/src/lib.rt", "aces"
@@ -34,17 +34,22 @@ INNER_NAME = re.compile(r"^ +(?:pub )?(?:data |record )?(\S+) :")
 class Block:
     """A definition: its lines, the names of its variants, and the module around it, if it stands in one."""
 
-    def __init__(self, lines, around=None):
-        self.lines, self.variants, self.around = lines, set(), around
+    def __init__(self, lines: list[str], around: "Block | None" = None) -> None:
+        self.lines, self.around = lines, around
+        self.variants: set[str] = set()
 
-    def words(self):
+    def words(self) -> list[list[str]]:
         """The words that stand in it and in the modules around it, each with the word behind its dot."""
         words = [(word.split(".") + [""])[:2] for word in re.findall(r"[^\s(){};,:\[\]<>&|]+", " ".join(self.lines))]
         return [pair for pair in words if pair[0] not in self.variants] + (self.around.words() if self.around else [])
 
 
+# The definitions that are reached: by file, those of each by their names.
+Found = dict[str, dict[str, Block]]
+
+
 @functools.cache
-def text_of(path):
+def text_of(path: str) -> str:
     """A file without comments, attributes and blank lines."""
     with open(os.path.join(CRATES, path), encoding="utf-8") as file:
         lines = [re.sub(r"(--|//| *#!?\[).*", "", line).rstrip() for line in file]
@@ -52,11 +57,14 @@ def text_of(path):
 
 
 @functools.cache
-def blocks(path):
+def blocks(path: str) -> dict[str, Block]:
     """The definitions of a file by their names, and by those of their variants. Modules, which have no name, are left out."""
     if path.endswith(".rt"):
         return {match[1] or match[2] or match[3]: Block(match[0].splitlines()) for match in RUST_BLOCK.finditer(text_of(path))}
-    found, modules, block, many = {}, [], None, None
+    found: dict[str, Block] = {}
+    modules: list[tuple[int, Block]] = []
+    block: Block | None = None
+    many: int | None = None
     for line in text_of(path).splitlines():
         head, depth = BLOCK.match(line), len(line) - len(line.lstrip())
         if head and (many is None or depth <= many):
@@ -76,19 +84,19 @@ def blocks(path):
 
 
 @functools.cache
-def types(crate):
+def types(crate: str) -> dict[str, str]:
     """The file of each type and trait of a crate's Rust code."""
     paths = glob.glob(f"{crate}/src/**/*.rt", root_dir=CRATES, recursive=True)
     return {name: path for path in sorted(paths) for name in blocks(path)}
 
 
 @functools.cache
-def imports(path):
+def imports(path: str) -> dict[str, tuple[str, str | None]]:
     """The place of each imported name: a file and a name in it, or no name where that is the word behind the dot."""
-    found = {}
+    found: dict[str, tuple[str, str | None]] = {}
     for crate, declared, module, names, alias in GHOST_USE.findall(text_of(path)):
         kind = re.sub(r"\.(TheVariants|TheOpen)$", "", module).split(".")[-1] if declared else None
-        file = types(crate).get(kind) if declared else f"{crate}/specs/{module}.antt"
+        file = types(crate).get(kind) if kind else f"{crate}/specs/{module}.antt"
         if kind == "TheConstants":
             kind, file = None, f"{crate}/src/{module.removesuffix('TheConstants').replace('.', '/').rstrip('/') or 'lib'}.rt"
         if file and os.path.exists(os.path.join(CRATES, file)):
@@ -100,9 +108,10 @@ def imports(path):
     return found
 
 
-def reached(root):
+def reached(root: tuple[str, str]) -> Found:
     """The definitions that one reaches: by file, those of each by their names, in the order of the file."""
-    seen, todo = {}, [root]
+    seen: dict[str, set[str]] = {}
+    todo = [root]
     while todo:
         path, name = todo.pop()
         if name in blocks(path) and name not in seen.setdefault(path, set()):
@@ -113,9 +122,10 @@ def reached(root):
     return {path: {name: block for name, block in blocks(path).items() if name in seen[path]} for path in seen if seen[path]}
 
 
-def leave_out(block, fields):
+def leave_out(block: Block, fields: tuple[str, ...]) -> None:
     """Takes fields from a record, each with the lines by which it goes on."""
-    kept, leaves = [], False
+    kept: list[str] = []
+    leaves = False
     for line in block.lines:
         field = re.match(r"  pub (\w+) :", line)
         leaves = field[1] in fields if field else leaves and line.startswith("    ")
@@ -123,38 +133,37 @@ def leave_out(block, fields):
     block.lines = kept
 
 
-def crates_in_order():
-    """The crates, each behind those that it uses."""
+def crates_in_order() -> list[str]:
+    """The names of the crates, in the order of crates.txt, where each stands behind those that it uses."""
     with open(os.path.join(CRATES, "..", "crates.txt"), encoding="utf-8") as file:
-        uses = {crate: below.split() for crate, below in (line.split(":") for line in file if not line.startswith("#"))}
-    return [crate for crate in graphlib.TopologicalSorter(uses).static_order() if crate in uses]
+        return re.findall(r"^(\w+):", file.read(), re.M)
 
 
-def line_counts(found):
+def line_counts(found: Found) -> dict[str, int]:
     """How many lines the definitions of each file have."""
     return {path: sum(len(block.lines) for block in set(named.values())) for path, named in found.items()}
 
 
-def table(found, with_names):
-    """Prints the files of each crate, definitions first and Rust types last, with their lines."""
+def table(found: Found, with_names: bool) -> Iterator[str]:
+    """The lines of a list: the files of each crate, definitions first and Rust types last, with how many lines they have."""
     count = line_counts(found)
     for crate in crates_in_order():
         paths = sorted((path for path in found if path.startswith(crate + "/")), key=lambda path: (path.endswith(".rt"), path))
         names = {path: f" ({', '.join(found[path])})" if with_names else "" for path in paths}
         shown = ", ".join(f"{path.split('/', 2)[2].removesuffix('.antt')} {count[path]}{names[path]}" for path in paths)
         if paths:
-            print(textwrap.fill(f"{crate} {sum(count[path] for path in paths)}: {shown}", 130, subsequent_indent="    "))
+            yield textwrap.fill(f"{crate} {sum(count[path] for path in paths)}: {shown}", 130, subsequent_indent="    ")
     rust = sum(count[path] for path in found if path.endswith(".rt"))
-    print(f"all {sum(count.values())}: {sum(count.values()) - rust} of definitions, {rust} of Rust types, traits, constants and the call itself")
+    yield f"all {sum(count.values())}: {sum(count.values()) - rust} of definitions, {rust} of Rust types, traits, constants and the call itself"
 
 
-def beyond(found):
+def beyond(found: Found) -> dict[str, int]:
     """The files of definitions of which nothing is reached, with their lines."""
     others = {path: blocks(path) for path in sorted(glob.glob("*/specs/*.antt", root_dir=CRATES)) if path not in found}
     return {path: count for path, count in line_counts(others).items() if count}
 
 
-def mark(found):
+def mark(found: Found) -> None:
     """Writes the first line of each file of definitions of which nothing is reached, and takes it from every other."""
     others = beyond(found)
     for path in glob.glob("*/specs/*.antt", root_dir=CRATES):
@@ -166,7 +175,7 @@ def mark(found):
                 file.write(marked)
 
 
-def main(mode="files", path=CLAIM[0], name=CLAIM[1], *fields):
+def main(mode: str = "files", path: str = CLAIM[0], name: str = CLAIM[1], *fields: str) -> None:
     """Prints what is asked for."""
     leave_out(blocks(path)[name], fields)
     found = reached((path, name))
@@ -175,7 +184,7 @@ def main(mode="files", path=CLAIM[0], name=CLAIM[1], *fields):
     elif mode == "mark":
         mark(found)
     else:
-        table(found, mode == "names")
+        print("\n".join(table(found, mode == "names")))
 
 
 if __name__ == "__main__":
