@@ -6,7 +6,6 @@ pub mod list;
 pub mod memfault;
 pub mod numbers;
 pub mod opening;
-pub mod places;
 pub mod reset;
 pub mod svc;
 pub mod values;
