@@ -9,7 +9,7 @@ use Rattle.machine_bus.specs.Bus.{word_at}
 use Rattle.machine_bus.specs.Locations.{location}
 use Rattle.machine_model.specs.declared.state.CoreRegisters.{CoreRegisters}
 use Rattle.machine_model.specs.State.{State}
-use Rattle.monitor_model.specs.BlockWords.{current_offset, top_offset, depth_offset, loans_offset, saved_offset, loan_offset}
+use Rattle.monitor_model.specs.BlockWords.{current_offset, top_offset, depth_offset, loan_count_offset, saved_offset, loan_offset}
 use Rattle.aces_inspection.specs.CoreLines.{named_word}
 
 -- PSP (B1.4.1)
@@ -65,7 +65,7 @@ module _ (i : Image) (s : State) where
 
     -- how many calls wait, and how many locals are lent
     unfoldable pub counts_text : List ℕ
-    counts_text = codes " depth " ++ decimal (block_word depth_offset) ++ codes " loans " ++ decimal (block_word loans_offset)
+    counts_text = codes " depth " ++ decimal (block_word depth_offset) ++ codes " loans " ++ decimal (block_word loan_count_offset)
 
     -- who runs, how far the stack is open, and these counts
     unfoldable pub compartment_line : List ℕ
@@ -98,7 +98,7 @@ module _ (i : Image) (s : State) where
     call_lines = last_first call_line (min (block_word depth_offset) most_saved)
 
     unfoldable pub loan_lines : List ℕ
-    loan_lines = last_first loan_line (min (block_word loans_offset) most_loans)
+    loan_lines = last_first loan_line (min (block_word loan_count_offset) most_loans)
 
   -- the block of the image, where it has one
   unfoldable pub block_lines : List ℕ

@@ -5,23 +5,22 @@ ghost use Rattle.aces_inspection.specs.MemoryLines as lines;
 
 use crate::words_put::{put_number, put_word};
 use machine_emulator::Machine;
+use monitor_model::places::{self, LOANS_OFFSET};
 use plan_report::text::Text;
 use std::alloc::AllocError;
 
 /// Where the running compartment stands in the block.
-const CURRENT: u32 = 0;
+const CURRENT: u32 = 4 * places::CUR as u32;
 /// Where the end of the open stack stands.
-const TOP: u32 = 4;
+const TOP: u32 = 4 * places::TOP as u32;
 /// Where the number of saved entries stands.
-const DEPTH: u32 = 8;
+const DEPTH: u32 = 4 * places::DEPTH as u32;
 /// Where the number of loans stands.
-const LOANS: u32 = 12;
+const LOAN_COUNT: u32 = 4 * places::LOANS as u32;
 /// Where the first saved entry stands; each has 16 bytes.
-const SAVED: u32 = 32;
+const SAVED: u32 = 4 * places::SAVED_PSP as u32;
 /// How many saved entries there are at most.
 const MOST_SAVED: u32 = 8;
-/// Where the first loan stands; each has 12 bytes.
-const LENT: u32 = 160;
 /// How many loans there are at most.
 const MOST_LOANS: u32 = 32;
 
@@ -42,7 +41,7 @@ fn put_counts(text: &mut Text, machine: &Machine, block: u32) -> Result<(), Allo
     ensures { OnOk result (text.new ≡ text.old ++ lines.counts_text machine.now.image machine.now.state block) }
 {
     put_number(text, b" depth ", block_word(machine, block, DEPTH))?;
-    put_number(text, b" loans ", block_word(machine, block, LOANS))
+    put_number(text, b" loans ", block_word(machine, block, LOAN_COUNT))
 }
 
 /// Puts the line of the running compartment.
@@ -105,7 +104,7 @@ fn put_loan(text: &mut Text, machine: &Machine, block: u32, number: u32) -> Resu
     requires number { number < 32 }
     ensures { OnOk result (text.new ≡ text.old ++ lines.loan_line machine.now.image machine.now.state block number) }
 {
-    let loan = LENT + 12 * number;
+    let loan = LOANS_OFFSET + 12 * number;
     put_number(text, b"loan ", number)?;
     put_word(text, b"", block_word(machine, block, loan))?;
     put_word(text, b"", block_word(machine, block, loan + 4))?;
@@ -132,7 +131,7 @@ fn put_loans(text: &mut Text, machine: &Machine, block: u32) -> Result<(), Alloc
     requires { lines.IsBlockAt block }
     ensures { OnOk result (text.new ≡ text.old ++ lines.loan_lines machine.now.image machine.now.state block) }
 {
-    let count = block_word(machine, block, LOANS).min(MOST_LOANS);
+    let count = block_word(machine, block, LOAN_COUNT).min(MOST_LOANS);
     for i in 0..count {
         put_loan(text, machine, block, count - 1 - i)?;
     }

@@ -6,7 +6,6 @@ mod list;
 pub mod memfault;
 mod numbers;
 mod opening;
-mod places;
 pub mod reset;
 pub mod svc;
 mod values;

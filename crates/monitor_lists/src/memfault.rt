@@ -7,13 +7,13 @@ ghost use Rattle.monitor_lists.specs.Made.{Appends, Ends, constants_of};
 
 use crate::halts::{HALT_FAULT, HALT_LOAD, HALT_STORE};
 use crate::opening::{closed_up, opened, record_of};
-use crate::places::{
-    CUR, FRAME_R0, FRAME_R1, FRAME_RETURN, LOAN_END, LOAN_FROM, LOAN_NUMBER, LOANS,
-};
 use crate::values::{LOAN_SIZE, MOST_LOANS, REFUSED_ACCESS};
 use crate::{Numbers, StepList};
 use base_words::memory::Width;
 use machine_model::CFSR;
+use monitor_model::places::{
+    CUR, FRAME_R0, FRAME_R1, FRAME_RETURN, LOAN_END, LOAN_FROM, LOAN_NUMBER, LOANS,
+};
 use monitor_steps::{PrivilegedCond, PrivilegedOp};
 use std::alloc::{AllocError, Global};
 

@@ -7,9 +7,9 @@ ghost use Rattle.monitor_lists.specs.Made.{Appends, Ends, constants_of};
 use crate::halts::HALT_STACK;
 use crate::list::StepList;
 use crate::numbers::Numbers;
-use crate::places::{FRAME_XPSR, RECORD_CODE, RECORD_SLOTS, REGION_RASR, REGION_RBAR, TOP};
 use crate::values::{ALL_EIGHTHS, FRAME_SIZE, PADDED, SRD_SHIFT, UNIT_OFF, UNIT_ON};
 use machine_protection::{MPU_CTRL, MPU_RBAR};
+use monitor_model::places::{FRAME_XPSR, RECORD_CODE, RECORD_SLOTS, REGION_RASR, REGION_RBAR, TOP};
 use monitor_steps::{PrivilegedCond, PrivilegedOp};
 use std::alloc::AllocError;
 

@@ -8,13 +8,13 @@ ghost use Rattle.monitor_lists.specs.Made.{Appends, Ends, constants_of};
 
 use crate::halts::HALT_UNIT;
 use crate::opening::{set_control, tables_of};
-use crate::places::{
-    CUR, DEPTH, INIT_AT, INIT_END, INIT_FROM, LOANS, MARK, REGION_RASR, REGION_RBAR, TOP,
-};
 use crate::values::{FAULTS_ON, INIT_SIZE, TRAPS_ON, UNIT_ON, UNPRIVILEGED};
 use crate::{Numbers, StepList};
 use machine_model::{CCR, SHCSR};
 use machine_protection::{MPU_RBAR, MPU_TYPE};
+use monitor_model::places::{
+    CUR, DEPTH, INIT_AT, INIT_END, INIT_FROM, LOANS, MARK, REGION_RASR, REGION_RBAR, TOP,
+};
 use monitor_steps::{PrivilegedCond, PrivilegedOp};
 use std::alloc::{AllocError, Global};
 

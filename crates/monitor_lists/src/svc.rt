@@ -7,16 +7,16 @@ ghost use Rattle.monitor_lists.specs.Made.{Appends, Ends, constants_of};
 
 use crate::halts::{HALT_END, HALT_LIMIT, HALT_LOAN, HALT_NUMBER, HALT_SITE, HALT_TARGET};
 use crate::opening::{closed_up, opened, tables_of};
-use crate::places::{
-    CUR, DEPTH, FRAME_LR, FRAME_R0, FRAME_R1, FRAME_R2, FRAME_R3, FRAME_R12, FRAME_RETURN,
-    FRAME_XPSR, LOAN_END, LOAN_FROM, LOAN_NUMBER, LOANS, MARK, SAVED_CUR, SAVED_MARK, SAVED_PSP,
-    SAVED_TOP, SITE_COUNT, SITE_FIRST, SITE_RETURN, TARGET_COMPARTMENT, TARGET_ENTRY, TOP,
-};
 use crate::values::{
     FRAME_SIZE, MOST_LOANS, MOST_TARGETS, NO_COMPARTMENT, TARGET_SIZE, THREAD_XPSR,
 };
 use crate::{Numbers, StepList};
 use base_words::memory::Width;
+use monitor_model::places::{
+    CUR, DEPTH, FRAME_LR, FRAME_R0, FRAME_R1, FRAME_R2, FRAME_R3, FRAME_R12, FRAME_RETURN,
+    FRAME_XPSR, LOAN_END, LOAN_FROM, LOAN_NUMBER, LOANS, MARK, SAVED_CUR, SAVED_MARK, SAVED_PSP,
+    SAVED_TOP, SITE_COUNT, SITE_FIRST, SITE_RETURN, TARGET_COMPARTMENT, TARGET_ENTRY, TOP,
+};
 use monitor_steps::{PrivilegedCond, PrivilegedOp};
 use std::alloc::{AllocError, Global};
 

@@ -4,33 +4,34 @@ use Rattle.base_words.specs.Bytes.{read}
 use Rattle.machine_devices.specs.declared.image.Image.{Image}
 use Rattle.monitor_model.specs.declared.tables.Tables.{Tables}
 use Rattle.monitor_model.specs.Block.{Loan, Saved, MonitorBlock}
+use Rattle.monitor_model.specs.Offsets as offsets
 
--- CUR, TOP, DEPTH, LOANS and MARK, one behind the other
+-- CUR, TOP, DEPTH, LOANS and MARK, in bytes from the block's beginning
 abbrev pub current_offset : ℕ
-current_offset = 0
+current_offset = 4 * offsets.cur
 
 abbrev pub top_offset : ℕ
-top_offset = 4
+top_offset = 4 * offsets.top
 
 abbrev pub depth_offset : ℕ
-depth_offset = 8
+depth_offset = 4 * offsets.depth
 
-abbrev pub loans_offset : ℕ
-loans_offset = 12
+abbrev pub loan_count_offset : ℕ
+loan_count_offset = 4 * offsets.loans
 
 abbrev pub mark_offset : ℕ
-mark_offset = 16
+mark_offset = 4 * offsets.mark
 
 -- eight saved entries of four words, and thirty-two loans of three, counted from the oldest
 abbrev pub saved_offset : (number : ℕ) → ℕ
-saved_offset k = 32 + 16 * k
+saved_offset k = 4 * offsets.saved_psp + 16 * k
 
 abbrev pub loan_offset : (number : ℕ) → ℕ
-loan_offset k = 160 + 12 * k
+loan_offset k = offsets.loans_offset + 12 * k
 
 -- behind all of them the monitor has its own stack, up to the block's end
 abbrev pub words_end : ℕ
-words_end = 544
+words_end = loan_offset 32
 
 module _ (i : Image) (t : Tables) (ram : List ℕ) where
   -- the word at an offset of the block
@@ -47,7 +48,7 @@ module _ (i : Image) (t : Tables) (ram : List ℕ) where
   depth = block_word depth_offset
 
   abbrev pub loan_count : ℕ
-  loan_count = block_word loans_offset
+  loan_count = block_word loan_count_offset
 
   -- of the saved entry, and of the loan, with this number
   abbrev pub saved_psp : ℕ → ℕ
@@ -93,7 +94,7 @@ module _ (i : Image) (t : Tables) (ram : List ℕ) where
     pub current_is : block_word current_offset ≡ m.current
     pub top_is : block_word top_offset ≡ m.top
     pub depth_is : block_word depth_offset ≡ length m.saved
-    pub loan_count_is : block_word loans_offset ≡ length m.loans
+    pub loan_count_is : block_word loan_count_offset ≡ length m.loans
     pub mark_is : block_word mark_offset ≡ m.mark
     pub has_saved : HasSaved m.saved
     pub has_loans : HasLoans m.loans

@@ -19,6 +19,7 @@ use Rattle.machine_model.specs.Reset.{IsReset}
 use Rattle.machine_model.specs.RunningCode.{Context, works, IsStore, IsLoad}
 use Rattle.monitor_model.specs.Block.{MonitorBlock, Loan, entered, lent}
 use Rattle.monitor_model.specs.BlockWords.{words_end}
+use Rattle.monitor_model.specs.Halts.{halt_end}
 use Rattle.monitor_model.specs.Setting.{Setting}
 use Rattle.monitor_model.specs.Threads.{svc, call_steps, lend_steps, access_steps, base, stack_end, first_block, HasRoom, OffFrame, IsLentTo, AtInstr, Resumes, Enters, Leaves, Begins}
 
@@ -93,7 +94,7 @@ module _ (g : Setting) (Inv : MonitorBlock → Context → List ℕ → Type 0) 
     pub ends : (x : Context) (low : List ℕ) (lr : ℕ) (f : Flags) (ram : List ℕ) (queues : List (List ℕ)) → Inv (first_block g) x ram →
         StateFits g.image (works x low (base g + stack_end g) lr g.stub f ram queues) →
         (k : ℕ) × (1 ≤ k) × (k ≤ call_steps)
-        × (t : State) × (t.ending ≡ Some (Halt 0)) × Runs by_mpu g.image k (works x low (base g + stack_end g) lr g.stub f ram queues) t []
+        × (t : State) × (t.ending ≡ Some (Halt halt_end)) × Runs by_mpu g.image k (works x low (base g + stack_end g) lr g.stub f ram queues) t []
 
   pub record Law : Type 0 where
     pub keeps : InvariantKeeps

@@ -20,6 +20,9 @@ pub const SAVED_TOP: u8 = 10;
 /// In the monitor's block: the caller's MARK, in the first saved entry.
 pub const SAVED_MARK: u8 = 11;
 
+/// In the monitor's block: its first loan, which is this many bytes behind the block's beginning.
+pub const LOANS_OFFSET: u32 = 160;
+
 /// In a loan: the address of the local.
 pub const LOAN_FROM: u8 = 0;
 /// In a loan: the address behind the local.
