@@ -43,7 +43,7 @@ fn done_by(answer: &Audit) -> Done
 }
 
 /// The answer of `audit` to an image.
-fn told_answer(alloc: Global, image: &Image) -> Result<CommandOutput, AllocError>
+fn answer_output(alloc: Global, image: &Image) -> Result<CommandOutput, AllocError>
     requires { ObeysRules image.now }
     ensures { IfOk result (λ told. IsToldOf audit_text image.now (told_outcome told)) }
 {
@@ -57,7 +57,7 @@ fn told_answer(alloc: Global, image: &Image) -> Result<CommandOutput, AllocError
 }
 
 /// What the tables of an image say, where it passes the checks, and else the answer of `audit`.
-fn told_tables(alloc: Global, image: &Image) -> Result<CommandOutput, AllocError>
+fn tables_output(alloc: Global, image: &Image) -> Result<CommandOutput, AllocError>
     requires { ObeysRules image.now }
     ensures { IfOk result (λ told. IsToldOf tables_text image.now (told_outcome told)) }
 {
@@ -81,13 +81,13 @@ fn told_tables(alloc: Global, image: &Image) -> Result<CommandOutput, AllocError
 }
 
 /// What is asked of an image.
-fn told_of(alloc: Global, image: &Image, asked: Asked) -> Result<CommandOutput, AllocError>
+fn asked_output(alloc: Global, image: &Image, asked: Asked) -> Result<CommandOutput, AllocError>
     requires { ObeysRules image.now }
     ensures { IfOk result (λ told. IsToldOf (text_of asked) image.now (told_outcome told)) }
 {
     match asked {
-        Asked::Answer => told_answer(alloc, image),
-        Asked::Tables => told_tables(alloc, image),
+        Asked::Answer => answer_output(alloc, image),
+        Asked::Tables => tables_output(alloc, image),
     }
 }
 
@@ -102,7 +102,7 @@ fn answered<'a>(
     ensures err { IfErr result (λ e. IsContentFailure (IsNoImage bytes.now) image.now e) }
 {
     let read = image_of(alloc, image, bytes)?;
-    let told = told_of(alloc, &read, asked)?;
+    let told = asked_output(alloc, &read, asked)?;
     Ok(told)
 }
 

@@ -13,7 +13,7 @@ use Rattle.plan.specs.Refusals.{IsPlanningRefusal}
 use Rattle.aces_compiler.specs.Compiled.{AreGroupsBy}
 
 -- it is not planned with the compartments of the answers
-pub record IsUnplanned (w : PlainFirmware) (n : Needs) (b : Board) (answers : FuncFacts → ℕ → Type 0) (r : PlanningRefusal) : Type 0 where
+pub record IsRefusalByAnswers (w : PlainFirmware) (n : Needs) (b : Board) (answers : FuncFacts → ℕ → Type 0) (r : PlanningRefusal) : Type 0 where
   pub groups : Groups
   pub by_answers : AreGroupsBy w n answers groups
   pub refused : IsPlanningRefusal (resolve w) n groups b r
@@ -21,4 +21,4 @@ pub record IsUnplanned (w : PlainFirmware) (n : Needs) (b : Board) (answers : Fu
 -- a refusal for want of memory says nothing else
 abbrev pub IsCompileRefusal : PlainFirmware → Needs → Board → (answers : FuncFacts → ℕ → Type 0) → PlanningRefusal → Type 0
 IsCompileRefusal w n b answers NoMemory = Unit {0}
-IsCompileRefusal w n b answers r = IsUnplanned w n b answers r
+IsCompileRefusal w n b answers r = IsRefusalByAnswers w n b answers r

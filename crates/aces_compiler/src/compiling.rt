@@ -25,7 +25,7 @@ use plan_policies::grouping::{Grouping, groups};
 use std::alloc::{AllocError, Global};
 
 /// The compartments that a callback makes of the functions of a firmware.
-pub(crate) fn grouped<F: Fn(&FuncFacts) -> u32>(
+pub(crate) fn compartments_of<F: Fn(&FuncFacts) -> u32>(
     alloc: Global,
     firmware: &Checked,
     needs: &Needs,
@@ -63,7 +63,7 @@ pub fn compile<F: Fn(&FuncFacts) -> u32>(
     ensures ok { IfOk result (IsCompiled (firmware_of firmware.now) analysis.now.needs board.now (FnReturnsAt F.Fn grouping.now.callback)) }
     ensures refused { IfErr result (IsCompileRefusal (firmware_of firmware.now) analysis.now.needs board.now (FnReturnsAt F.Fn grouping.now.callback)) }
 {
-    let groups = grouped(alloc, firmware, &analysis.needs, grouping)?;
+    let groups = compartments_of(alloc, firmware, &analysis.needs, grouping)?;
     let image = compile_groups(alloc, firmware, analysis, groups, board)?;
     Ok(image)
 }

@@ -20,7 +20,7 @@ use crate::laws::promised;
 use image_linker::link;
 use ir_model::checked::Checked;
 use machine_devices::image::Image;
-use plan::{PlannedFirmware, PlanningRefusal, planned};
+use plan::{PlannedFirmware, PlanningRefusal, planned_firmware};
 use plan_compartments::laws::divisions_are_one;
 use plan_firmwares::{Analysis, analyse, planned_by};
 use plan_model::Policy;
@@ -63,12 +63,12 @@ fn image_by(
 {
     divisions_are_one();
     let made = planned_by(alloc, analysis, board)?;
-    let image = linked(alloc, firmware, analysis, &made, board)?;
+    let image = promised_image(alloc, firmware, analysis, &made, board)?;
     Ok(image)
 }
 
 /// The image of a firmware that is planned for a board, of which all is promised.
-fn linked(
+fn promised_image(
     alloc: Global,
     firmware: &Checked,
     analysis: &Analysis,
@@ -84,12 +84,12 @@ fn linked(
 {
     firmware.firmware();
     promised();
-    let image = written(alloc, firmware, analysis, planned, board)?;
+    let image = image_of_plan(alloc, firmware, analysis, planned, board)?;
     Ok(image)
 }
 
 /// The image of a firmware that is planned for a board.
-pub(crate) fn written(
+pub(crate) fn image_of_plan(
     alloc: Global,
     firmware: &Checked,
     analysis: &Analysis,
@@ -132,7 +132,7 @@ pub(crate) fn plan_of_groups(
     ensures ok { IfOk result (IsPlannedFor (resolve (firmware_of firmware.now)) analysis.now.needs groups board.now) }
     ensures refused { IfErr result (IsPlanningRefusal (resolve (firmware_of firmware.now)) analysis.now.needs groups board.now) }
 {
-    let made = planned(alloc, &analysis.program, &analysis.needs, groups, board)?;
+    let made = planned_firmware(alloc, &analysis.program, &analysis.needs, groups, board)?;
     Ok(made)
 }
 
@@ -158,6 +158,6 @@ pub fn compile_groups(
     ensures refused { IfErr result (IsPlanningRefusal (resolve (firmware_of firmware.now)) analysis.now.needs groups board.now) }
 {
     let plan = plan_of_groups(alloc, firmware, analysis, groups, board)?;
-    let image = linked(alloc, firmware, analysis, &plan, board)?;
+    let image = promised_image(alloc, firmware, analysis, &plan, board)?;
     Ok(image)
 }

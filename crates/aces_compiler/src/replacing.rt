@@ -14,9 +14,9 @@ ghost use Rattle.monitor_program.specs.Page as pages;
 ghost use Rattle.image_runs.specs.OtherCode.{with_flash};
 ghost use Rattle.aces_compiler.specs.WithCode.{IsImageWithCode, IsCompiledWithCode, IsGroupsRefusal, IsCodeRefusal};
 
-use crate::compiling::grouped;
+use crate::compiling::compartments_of;
 use crate::laws::promised;
-use crate::pipeline::{plan_of_groups, written};
+use crate::pipeline::{image_of_plan, plan_of_groups};
 use base_lists::ListVec;
 use image_linker::put_bytes;
 use ir_model::checked::Checked;
@@ -121,7 +121,7 @@ fn groups_with_code(
     if code.len() > spot.size as usize {
         return Err(CodeRefusal::Length);
     }
-    let image = written(alloc, firmware, analysis, &made, board)?;
+    let image = image_of_plan(alloc, firmware, analysis, &made, board)?;
     Ok(with_block(alloc, image, *spot, code)?)
 }
 
@@ -148,6 +148,6 @@ pub fn compile_with_code<F: Fn(&FuncFacts) -> u32>(
     ensures ok { IfOk result (IsCompiledWithCode (firmware_of firmware.now) analysis.now.needs board.now (FnReturnsAt F.Fn grouping.now.callback) compartment code.now) }
     ensures refused { IfErr result (IsCodeRefusal (firmware_of firmware.now) analysis.now.needs board.now (FnReturnsAt F.Fn grouping.now.callback) compartment code.now) }
 {
-    let groups = grouped(alloc, firmware, &analysis.needs, grouping)?;
+    let groups = compartments_of(alloc, firmware, &analysis.needs, grouping)?;
     groups_with_code(alloc, firmware, analysis, groups, board, compartment, code)
 }

@@ -70,7 +70,7 @@ pub struct DividedProgram<'a> {
 /// # Errors
 ///
 /// There is no memory for it.
-pub fn divided(
+pub fn divided_program(
     alloc: Global,
     firmware: &Checked,
     policy: Policy,
@@ -130,7 +130,7 @@ fn source_checked<'a, O: Sink>(
 {
     let windows = windows(alloc, checked.firmware().periphs.as_slice())?;
     let tape_read = tape_of(alloc, tape, text, windows.as_slice())?;
-    let divided = divided(alloc, checked, policy)?;
+    let divided = divided_program(alloc, checked, policy)?;
     let DividedProgram {
         program,
         compartments,

@@ -30,7 +30,7 @@ pub fn list<'a, F: Files, O: Sink>(
     ensures { CarriesOut (AnswerToList firmware.now board.now policy) F.Files files.old files.new (Listing firmware.now board.now policy) (sink O.Sink out.old) (sink O.Sink out.new) result }
 {
     let both = load_firmware_and(alloc, files, firmware, board)?;
-    let lines = listed(
+    let lines = listing_by_bytes(
         alloc,
         firmware,
         both.first.as_slice(),
@@ -42,7 +42,7 @@ pub fn list<'a, F: Files, O: Sink>(
 }
 
 /// The listing by the bytes of both files, each behind its name. No file is touched.
-fn listed<'a>(
+fn listing_by_bytes<'a>(
     alloc: Global,
     firmware: &'a str,
     bytes: &[u8],

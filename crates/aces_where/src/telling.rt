@@ -18,10 +18,10 @@ use crate::place_lines;
 use crate::running::{Halt, go, run_out};
 use aces_files::loading::tape_of;
 use aces_firmwares::reading::firmware_of;
-use aces_firmwares::source::divided;
+use aces_firmwares::source::divided_program;
 use aces_reports::Failure;
 use ir_model::checked::Checked;
-use ir_output::begun;
+use ir_output::run_at_start;
 use ir_program::peripherals::windows;
 use ir_program::program::Program;
 use machine_devices::tape::Tape;
@@ -46,7 +46,7 @@ fn halted(
     ensures { IfOk result (IsHalt (resolve (firmware_of firmware.now)) compartments.now steps (start (resolve (firmware_of firmware.now)) tape)) }
 {
     let standing = Vec::from_slice(alloc, compartments)?;
-    let mut run = begun(alloc, firmware, program, standing, tape)?;
+    let mut run = run_at_start(alloc, firmware, program, standing, tape)?;
     run_out(&mut run, steps)
 }
 
@@ -68,7 +68,7 @@ fn lines_of(
     ensures { IfOk result (λ lines. lines.items ≡ halt_lines (firmware_of firmware.now) compartments.now tape halt) }
 {
     let standing = Vec::from_slice(alloc, compartments)?;
-    let mut run = begun(alloc, firmware, program, standing, tape)?;
+    let mut run = run_at_start(alloc, firmware, program, standing, tape)?;
     go(&mut run, halt.going)?;
     place_lines(alloc, firmware.firmware(), &run, halt.made, halt.end)
 }
@@ -156,7 +156,7 @@ fn lines_by(
     ensures { IfOk result (λ lines. (compartments : List ℕ) × AreCompartmentsBy policy (firmware_of firmware.now) compartments
         × AreLines (firmware_of firmware.now) compartments tape steps lines.items) }
 {
-    let divided = divided(alloc, firmware, policy)?;
+    let divided = divided_program(alloc, firmware, policy)?;
     let lines = lines_on(
         alloc,
         firmware,

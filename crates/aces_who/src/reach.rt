@@ -21,7 +21,7 @@ use plan_report::slots::{covers_of, is_covered, is_used, is_writer};
 use plan_report::subject::Subject;
 
 /// Whether a global lies in a data region.
-fn holds(region: &DataRegion, global: u32) -> bool
+fn has_global(region: &DataRegion, global: u32) -> bool
     ensures { result ≡ has region.now.globals global }
 {
     region.globals.as_slice().contains(&global)
@@ -32,7 +32,7 @@ fn may_write(graph: &Final, compartment: u32, global: u32) -> bool
     ensures { result ≡ list_any (λ (r : TheRegion). has r.writers compartment && has r.globals global) graph.now.regions }
 {
     graph.regions.as_slice().iter().any(|region| is_writer(region, compartment)
-        && holds(region, global))
+        && has_global(region, global))
 }
 
 /// Whether a global lies in a data region that a compartment uses.
@@ -40,7 +40,7 @@ fn may_read(graph: &Final, compartment: u32, global: u32) -> bool
     ensures { result ≡ list_any (λ (r : TheRegion). is_user compartment r && has r.globals global) graph.now.regions }
 {
     graph.regions.as_slice().iter().any(|region| is_used(region, compartment)
-        && holds(region, global))
+        && has_global(region, global))
 }
 
 /// The window of a peripheral; empty for an absent one.

@@ -58,7 +58,7 @@ fn distance(from: u32, to: u32) -> i32
 }
 
 /// BL from an address to another.
-fn link(from: u32, to: u32) -> Instr
+fn branch_with_link(from: u32, to: u32) -> Instr
     requires low { from < 2 ^ 31 }
     requires back { from ≤ to + 2 ^ 20 }
     requires forward { to < from + 2 ^ 20 }
@@ -89,7 +89,7 @@ fn put_near_call(
 {
     put_args(asm, args)?;
     let from = asm.here();
-    put(asm, &[link(from, entry)])?;
+    put(asm, &[branch_with_link(from, entry)])?;
     put_result(asm, to)
 }
 

@@ -8,11 +8,11 @@ use Rattle.ir_model.specs.Types.{U32, nothing}
 use Rattle.ir_model.specs.Plain.{PlainFunc, PlainFirmware}
 use Rattle.ir_model.specs.State.{Ended, Returned}
 use Rattle.ir_model.specs.Typing.{fault_of}
-use Rattle.example_machine.specs.Written.{slot, block, func, file, firmware, after, told}
+use Rattle.example_machine.specs.Written.{binding, block, func, file, firmware, after, run_events}
 
 abbrev pub player : (name other : List ℕ) → PlainFunc
 player name other =
-    func name (slot (codes "n") U32 ∷ []) nothing [] (slot (codes "z") U32 ∷ [])
+    func name (binding (codes "n") U32 ∷ []) nothing [] (binding (codes "z") U32 ∷ [])
     (block (codes "b0") [] (Branch (codes "n") (codes "b1") (codes "b2"))
     ∷ block (codes "b1")
     (inst.Const (codes "z") 1
@@ -25,7 +25,7 @@ player name other =
 
 abbrev pub main : PlainFunc
 main =
-    func (codes "main") [] nothing [] (slot (codes "n") U32 ∷ [])
+    func (codes "main") [] nothing [] (binding (codes "n") U32 ∷ [])
     (block (codes "b0") (inst.Const (codes "n") 3 ∷ inst.Call None (codes "ping") (codes "n" ∷ []) ∷ []) (Ret None) ∷ [])
 
 abbrev pub ping : PlainFirmware
@@ -36,4 +36,4 @@ ping =
 pub record ComputesCalls : Type 0 where
   pub typed : fault_of ping ≡ None
   pub ends : after ping (0 ∷ 0 ∷ 1 ∷ []) [] 20 ≡ Ended Returned
-  pub tells : told ping (0 ∷ 0 ∷ 1 ∷ []) [] 20 ≡ []
+  pub tells : run_events ping (0 ∷ 0 ∷ 1 ∷ []) [] 20 ≡ []

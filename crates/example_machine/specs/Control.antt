@@ -10,12 +10,12 @@ use Rattle.ir_model.specs.Types.{U32, Pointer, nothing, gives}
 use Rattle.ir_model.specs.Plain.{PlainFunc, PlainFirmware}
 use Rattle.ir_model.specs.State.{Ended, OutOfInput}
 use Rattle.ir_model.specs.Typing.{fault_of}
-use Rattle.example_machine.specs.Written.{slot, periph, global, block, func, file, firmware, after, told}
+use Rattle.example_machine.specs.Written.{binding, periph, global, block, func, file, firmware, after, run_events}
 
 abbrev pub main : PlainFunc
 main =
     func (codes "main") [] nothing []
-    (slot (codes "n") U32 ∷ slot (codes "one") U32 ∷ slot (codes "p") (Pointer U32) ∷ slot (codes "s") U32 ∷ [])
+    (binding (codes "n") U32 ∷ binding (codes "one") U32 ∷ binding (codes "p") (Pointer U32) ∷ binding (codes "s") U32 ∷ [])
     (block (codes "b0") (inst.Const (codes "one") 1 ∷ inst.Addr (codes "p") (codes "turns") ∷ []) (Jump (codes "b1"))
     ∷ block (codes "b1")
     (inst.Call (Some (codes "s")) (codes "adc_read") []
@@ -30,13 +30,13 @@ main =
 abbrev pub adc_read : PlainFunc
 adc_read =
     func (codes "adc_read") [] (gives U32) []
-    (slot (codes "p") (Pointer U32) ∷ slot (codes "v") U32 ∷ [])
+    (binding (codes "p") (Pointer U32) ∷ binding (codes "v") U32 ∷ [])
     (block (codes "b0") (inst.Addr (codes "p") (codes "ADC") ∷ inst.Load (codes "v") (codes "p") ∷ []) (Ret (Some (codes "v"))) ∷ [])
 
 abbrev pub control : PlainFunc
 control =
-    func (codes "control") (slot (codes "e") U32 ∷ []) nothing []
-    (slot (codes "p") (Pointer U32) ∷ slot (codes "q") (Pointer U32) ∷ slot (codes "g") U32 ∷ slot (codes "k") U32 ∷ [])
+    func (codes "control") (binding (codes "e") U32 ∷ []) nothing []
+    (binding (codes "p") (Pointer U32) ∷ binding (codes "q") (Pointer U32) ∷ binding (codes "g") U32 ∷ binding (codes "k") U32 ∷ [])
     (block (codes "b0")
     (inst.Addr (codes "p") (codes "TIM")
     ∷ inst.Const (codes "k") 1
@@ -52,8 +52,8 @@ control =
 
 abbrev pub clamp : PlainFunc
 clamp =
-    func (codes "clamp") (slot (codes "v") U32 ∷ []) (gives U32) []
-    (slot (codes "m") U32 ∷ slot (codes "c") U32 ∷ [])
+    func (codes "clamp") (binding (codes "v") U32 ∷ []) (gives U32) []
+    (binding (codes "m") U32 ∷ binding (codes "c") U32 ∷ [])
     (block (codes "b0") (inst.Const (codes "m") 100 ∷ inst.Cmp Ult (codes "c") (codes "m") (codes "v") ∷ []) (Branch (codes "c") (codes "b1") (codes "b2"))
     ∷ block (codes "b1") [] (Ret (Some (codes "m")))
     ∷ block (codes "b2") [] (Ret (Some (codes "v")))
@@ -61,8 +61,8 @@ clamp =
 
 abbrev pub coil_set : PlainFunc
 coil_set =
-    func (codes "coil_set") (slot (codes "d") U32 ∷ []) nothing []
-    (slot (codes "p") (Pointer U32) ∷ slot (codes "k") U32 ∷ [])
+    func (codes "coil_set") (binding (codes "d") U32 ∷ []) nothing []
+    (binding (codes "p") (Pointer U32) ∷ binding (codes "k") U32 ∷ [])
     (block (codes "b0")
     (inst.Addr (codes "p") (codes "TIM") ∷ inst.Const (codes "k") 13 ∷ inst.Elem (codes "p") (codes "p") (codes "k") ∷ inst.Store (codes "p") (codes "d") ∷ [])
     (Ret None)
@@ -81,7 +81,7 @@ loop =
 pub record ComputesControl : Type 0 where
   pub typed : fault_of loop ≡ None
   pub ends : after loop (0 ∷ 1 ∷ 2 ∷ 3 ∷ 3 ∷ []) ((10 ∷ []) ∷ [] ∷ []) 40 ≡ Ended OutOfInput
-  pub tells : told loop (0 ∷ 1 ∷ 2 ∷ 3 ∷ 3 ∷ []) ((10 ∷ []) ∷ [] ∷ []) 40
+  pub tells : run_events loop (0 ∷ 1 ∷ 2 ∷ 3 ∷ 3 ∷ []) ((10 ∷ []) ∷ [] ∷ []) 40
       ≡ record { compartment = 1; periph = 0; offset = 0; width = 4; write = false; value = 10 }
       ∷ record { compartment = 2; periph = 1; offset = 0; width = 4; write = true; value = 1 }
       ∷ record { compartment = 3; periph = 1; offset = 0x34; width = 4; write = true; value = 30 }

@@ -8,13 +8,13 @@ use Rattle.ir_model.specs.Plain.{PlainFunc}
 use Rattle.ir_model.specs.Layout.{known}
 use Rattle.ir_model.specs.Frames.{frame_size}
 use Rattle.code_frames.specs.Places.{register_offset, local_offset, return_offset}
-use Rattle.example_machine.specs.Written.{slot, block, func}
+use Rattle.example_machine.specs.Written.{binding, block, func}
 
 abbrev pub example : PlainFunc
 example =
     func (codes "main") [] nothing
-    (slot (codes "a") U8 ∷ slot (codes "b") U16 ∷ [])
-    (slot (codes "r") U32 ∷ slot (codes "s") U32 ∷ [])
+    (binding (codes "a") U8 ∷ binding (codes "b") U16 ∷ [])
+    (binding (codes "r") U32 ∷ binding (codes "s") U32 ∷ [])
     (block (codes "b0") [] (Ret None) ∷ [])
 
 pub record ComputesFrame : Type 0 where

@@ -8,12 +8,12 @@ use Rattle.ir_model.specs.Types.{U32, Pointer, nothing, gives}
 use Rattle.ir_model.specs.Plain.{PlainFunc, PlainFirmware}
 use Rattle.ir_model.specs.State.{Ended, Returned, Faulted, DeadFault}
 use Rattle.ir_model.specs.Typing.{fault_of}
-use Rattle.example_machine.specs.Written.{slot, periph, block, func, file, firmware, after, told}
+use Rattle.example_machine.specs.Written.{binding, periph, block, func, file, firmware, after, run_events}
 
 abbrev pub main : PlainFunc
 main =
-    func (codes "main") [] nothing (slot (codes "x") U32 ∷ [])
-    (slot (codes "p") (Pointer U32) ∷ slot (codes "t") (Pointer U32) ∷ slot (codes "v") U32 ∷ [])
+    func (codes "main") [] nothing (binding (codes "x") U32 ∷ [])
+    (binding (codes "p") (Pointer U32) ∷ binding (codes "t") (Pointer U32) ∷ binding (codes "v") U32 ∷ [])
     (block (codes "b0")
     (inst.Addr (codes "p") (codes "x")
     ∷ inst.Call None (codes "f") (codes "p" ∷ [])
@@ -26,12 +26,12 @@ main =
 
 abbrev pub f : PlainFunc
 f =
-    func (codes "f") (slot (codes "p") (Pointer U32) ∷ []) nothing [] []
+    func (codes "f") (binding (codes "p") (Pointer U32) ∷ []) nothing [] []
     (block (codes "b0") (inst.Call None (codes "g") (codes "p" ∷ []) ∷ []) (Ret None) ∷ [])
 
 abbrev pub g : PlainFunc
 g =
-    func (codes "g") (slot (codes "p") (Pointer U32) ∷ []) nothing [] (slot (codes "k") U32 ∷ [])
+    func (codes "g") (binding (codes "p") (Pointer U32) ∷ []) nothing [] (binding (codes "k") U32 ∷ [])
     (block (codes "b0") (inst.Const (codes "k") 42 ∷ inst.Store (codes "p") (codes "k") ∷ []) (Ret None) ∷ [])
 
 abbrev pub lend : PlainFirmware
@@ -42,12 +42,12 @@ lend =
 -- a function that gives the address of its local
 abbrev pub leaks : PlainFunc
 leaks =
-    func (codes "leaks") [] (gives (Pointer U32)) (slot (codes "x") U32 ∷ []) (slot (codes "p") (Pointer U32) ∷ [])
+    func (codes "leaks") [] (gives (Pointer U32)) (binding (codes "x") U32 ∷ []) (binding (codes "p") (Pointer U32) ∷ [])
     (block (codes "b0") (inst.Addr (codes "p") (codes "x") ∷ []) (Ret (Some (codes "p"))) ∷ [])
 
 abbrev pub reads_late : PlainFunc
 reads_late =
-    func (codes "main") [] nothing [] (slot (codes "p") (Pointer U32) ∷ slot (codes "v") U32 ∷ [])
+    func (codes "main") [] nothing [] (binding (codes "p") (Pointer U32) ∷ binding (codes "v") U32 ∷ [])
     (block (codes "b0")
     (inst.Call (Some (codes "p")) (codes "leaks") []
     ∷ inst.Const (codes "v") 1
@@ -63,7 +63,7 @@ leak = firmware [] [] [] (file (codes "m") (reads_late ∷ leaks ∷ []) ∷ [])
 pub record ComputesLending : Type 0 where
   pub typed : fault_of lend ≡ None
   pub ends : after lend (0 ∷ 1 ∷ 2 ∷ []) ([] ∷ []) 11 ≡ Ended Returned
-  pub tells : told lend (0 ∷ 1 ∷ 2 ∷ []) ([] ∷ []) 11
+  pub tells : run_events lend (0 ∷ 1 ∷ 2 ∷ []) ([] ∷ []) 11
       ≡ record { compartment = 0; periph = 0; offset = 0; width = 4; write = true; value = 42 } ∷ []
   pub leak_typed : fault_of leak ≡ None
   -- that the function has returned is found before that there is no cell

@@ -10,14 +10,14 @@ use Rattle.ir_model.specs.Plain.{PlainFirmware}
 use Rattle.ir_model.specs.State.{Ended, Returned, Faulted, NoCellFault, ConstantFault}
 use Rattle.ir_model.specs.Step.{binary}
 use Rattle.ir_model.specs.Typing.{fault_of}
-use Rattle.example_machine.specs.Written.{slot, periph, global, block, func, file, firmware, only_main, after, told}
+use Rattle.example_machine.specs.Written.{binding, periph, global, block, func, file, firmware, only_main, after, run_events}
 
 -- the peripheral of 1,024 bytes, one element further on
 abbrev pub pokes : PlainFirmware
 pokes =
     firmware [] (periph (codes "TIM") 0x40010000 1024 ∷ []) []
     (file (codes "m")
-    (func (codes "main") [] nothing [] (slot (codes "p") (Pointer U32) ∷ slot (codes "k") U32 ∷ slot (codes "v") U32 ∷ [])
+    (func (codes "main") [] nothing [] (binding (codes "p") (Pointer U32) ∷ binding (codes "k") U32 ∷ binding (codes "v") U32 ∷ [])
     (block (codes "b0")
     (inst.Addr (codes "p") (codes "TIM")
     ∷ inst.Const (codes "k") 1
@@ -34,7 +34,7 @@ pokes =
 abbrev pub overruns : PlainFirmware
 overruns =
     only_main [] (global (codes "a") (Array 4 U8) [] ∷ []) []
-    (slot (codes "q") (Pointer (Array 4 U8)) ∷ slot (codes "e") (Pointer U8) ∷ slot (codes "k") U32 ∷ [])
+    (binding (codes "q") (Pointer (Array 4 U8)) ∷ binding (codes "e") (Pointer U8) ∷ binding (codes "k") U32 ∷ [])
     (inst.Addr (codes "q") (codes "a")
     ∷ inst.Elem (codes "e") (codes "q") (codes "k")
     ∷ inst.Store (codes "e") (codes "k")
@@ -47,7 +47,7 @@ overruns =
 abbrev pub spoils : (behind : ℕ) → PlainFirmware
 spoils n =
     only_main [] (record (global (codes "c") U32 (Word 5 ∷ [])) { constant = true } ∷ []) []
-    (slot (codes "p") (Pointer U32) ∷ slot (codes "k") U32 ∷ [])
+    (binding (codes "p") (Pointer U32) ∷ binding (codes "k") U32 ∷ [])
     (inst.Addr (codes "p") (codes "c")
     ∷ inst.Const (codes "k") n
     ∷ inst.Elem (codes "p") (codes "p") (codes "k")
@@ -58,7 +58,7 @@ spoils n =
 pub record ComputesSmall : Type 0 where
   pub pokes_typed : fault_of pokes ≡ None
   pub pokes_ends : after pokes (0 ∷ []) ([] ∷ []) 6 ≡ Ended Returned
-  pub pokes_tells : told pokes (0 ∷ []) ([] ∷ []) 5
+  pub pokes_tells : run_events pokes (0 ∷ []) ([] ∷ []) 5
       ≡ record { compartment = 0; periph = 0; offset = 4; width = 4; write = true; value = 7 } ∷ []
   pub overruns_typed : fault_of overruns ≡ None
   pub overruns_ends : after overruns (0 ∷ []) [] 6 ≡ Ended (Faulted NoCellFault)

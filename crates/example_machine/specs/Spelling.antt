@@ -15,7 +15,7 @@ use Rattle.ir_model.specs.declared.token.Excess.{Excess}
 use Rattle.ir_model.specs.declared.token.Excess.TheVariants.{Passes, TooWide}
 use Rattle.ir_model.specs.Lines.{type_tokens, periph_line, global_line, inst_line}
 use Rattle.ir_model.specs.Canonical.{canonical, line_bytes}
-use Rattle.example_machine.specs.Written.{slot, struct, periph, global, block, func, file, firmware, only_main}
+use Rattle.example_machine.specs.Written.{binding, struct, periph, global, block, func, file, firmware, only_main}
 
 abbrev pub lines : List (List ℕ) → List ℕ
 lines ls = flat_map (λ (l : List ℕ). l ++ 10 ∷ []) ls
@@ -23,9 +23,9 @@ lines ls = flat_map (λ (l : List ℕ). l ++ 10 ∷ []) ls
 -- each form without a number
 abbrev pub each_form : PlainFunc
 each_form =
-    func (codes "f") (slot (codes "a") U32 ∷ slot (codes "p") (Pointer U8) ∷ []) (gives U32)
-    (slot (codes "x") (Pointer (Named (codes "S"))) ∷ [])
-    (slot (codes "h") (Callee (more U32 (more (Pointer U8) none)) (gives U32)) ∷ slot (codes "k") (Callee none nothing) ∷ [])
+    func (codes "f") (binding (codes "a") U32 ∷ binding (codes "p") (Pointer U8) ∷ []) (gives U32)
+    (binding (codes "x") (Pointer (Named (codes "S"))) ∷ [])
+    (binding (codes "h") (Callee (more U32 (more (Pointer U8) none)) (gives U32)) ∷ binding (codes "k") (Callee none nothing) ∷ [])
     (block (codes "one")
     (inst.Move (codes "a") (codes "b")
     ∷ inst.Bin Add (codes "a") (codes "b") (codes "c")
@@ -55,7 +55,7 @@ pub record ComputesSpelling : Type 0 where
   pub shortest_length : length (canonical (only_main [] [] [] [] [])) ≡ 38
   pub nothing_at_all : canonical (firmware [] [] [] []) ≡ []
   pub each_line : canonical
-      (firmware (struct (codes "S") (slot (codes "a") U16 ∷ slot (codes "b") (Pointer (Named (codes "S"))) ∷ []) ∷ [])
+      (firmware (struct (codes "S") (binding (codes "a") U16 ∷ binding (codes "b") (Pointer (Named (codes "S"))) ∷ []) ∷ [])
       []
       (record (global (codes "c") U8 []) { constant = true }
       ∷ global (codes "d") U32 []

@@ -10,7 +10,7 @@ use Rattle.ir_model.specs.Types.{PlainType, U32, Pointer, Array, Callee, none, m
 use Rattle.ir_model.specs.Plain.{PlainFunc, PlainFirmware}
 use Rattle.ir_model.specs.State.{Ended, Faulted, NullFault}
 use Rattle.ir_model.specs.Typing.{fault_of}
-use Rattle.example_machine.specs.Written.{slot, periph, global, block, func, file, firmware, after, told}
+use Rattle.example_machine.specs.Written.{binding, periph, global, block, func, file, firmware, after, run_events}
 
 abbrev pub entry : PlainType
 entry = Callee (more U32 none) (gives U32)
@@ -18,14 +18,14 @@ entry = Callee (more U32 none) (gives U32)
 abbrev pub main : PlainFunc
 main =
     func (codes "main") [] nothing []
-    (slot (codes "a") (Pointer U32)
-    ∷ slot (codes "t") (Pointer U32)
-    ∷ slot (codes "i") U32
-    ∷ slot (codes "v") U32
-    ∷ slot (codes "r") U32
-    ∷ slot (codes "q") (Pointer (Array 4 entry))
-    ∷ slot (codes "e") (Pointer entry)
-    ∷ slot (codes "h") entry
+    (binding (codes "a") (Pointer U32)
+    ∷ binding (codes "t") (Pointer U32)
+    ∷ binding (codes "i") U32
+    ∷ binding (codes "v") U32
+    ∷ binding (codes "r") U32
+    ∷ binding (codes "q") (Pointer (Array 4 entry))
+    ∷ binding (codes "e") (Pointer entry)
+    ∷ binding (codes "h") entry
     ∷ [])
     (block (codes "b0")
     (inst.Addr (codes "a") (codes "ADC")
@@ -45,16 +45,16 @@ main =
     ∷ [])
 
 abbrev pub same_value : PlainFunc
-same_value = func (codes "f0") (slot (codes "v") U32 ∷ []) (gives U32) [] [] (block (codes "b0") [] (Ret (Some (codes "v"))) ∷ [])
+same_value = func (codes "f0") (binding (codes "v") U32 ∷ []) (gives U32) [] [] (block (codes "b0") [] (Ret (Some (codes "v"))) ∷ [])
 
 abbrev pub doubled : PlainFunc
 doubled =
-    func (codes "f1") (slot (codes "v") U32 ∷ []) (gives U32) [] []
+    func (codes "f1") (binding (codes "v") U32 ∷ []) (gives U32) [] []
     (block (codes "b0") (inst.Bin Add (codes "v") (codes "v") (codes "v") ∷ []) (Ret (Some (codes "v"))) ∷ [])
 
 abbrev pub squared : PlainFunc
 squared =
-    func (codes "f2") (slot (codes "v") U32 ∷ []) (gives U32) [] []
+    func (codes "f2") (binding (codes "v") U32 ∷ []) (gives U32) [] []
     (block (codes "b0") (inst.Bin Mul (codes "v") (codes "v") (codes "v") ∷ []) (Ret (Some (codes "v"))) ∷ [])
 
 abbrev pub table : PlainFirmware
@@ -69,5 +69,5 @@ event p w v = record { compartment = 0; periph = p; offset = 0; width = 4; write
 pub record ComputesTable : Type 0 where
   pub typed : fault_of table ≡ None
   pub ends : after table (0 ∷ 0 ∷ 1 ∷ 2 ∷ []) ((0 ∷ 1 ∷ 2 ∷ 3 ∷ []) ∷ [] ∷ []) 40 ≡ Ended (Faulted NullFault)
-  pub tells : told table (0 ∷ 0 ∷ 1 ∷ 2 ∷ []) ((0 ∷ 1 ∷ 2 ∷ 3 ∷ []) ∷ [] ∷ []) 40
+  pub tells : run_events table (0 ∷ 0 ∷ 1 ∷ 2 ∷ []) ((0 ∷ 1 ∷ 2 ∷ 3 ∷ []) ∷ [] ∷ []) 40
       ≡ event 0 false 0 ∷ event 1 true 7 ∷ event 0 false 1 ∷ event 1 true 14 ∷ event 0 false 2 ∷ event 1 true 0x31 ∷ event 0 false 3 ∷ []

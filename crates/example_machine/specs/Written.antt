@@ -15,8 +15,8 @@ use Rattle.ir_model.specs.Resolve.{resolve}
 use Rattle.ir_model.specs.State.{SourceState, start}
 use Rattle.ir_model.specs.Step.{source_step, source_event}
 
-abbrev pub slot : List ℕ → PlainType → PlainBinding
-slot n t = record { name = n; ty = t }
+abbrev pub binding : List ℕ → PlainType → PlainBinding
+binding n t = record { name = n; ty = t }
 
 abbrev pub struct : List ℕ → List PlainBinding → PlainStruct
 struct n fs = record { name = n; fields = fs }
@@ -48,5 +48,5 @@ only_main ss gs ls rs is =
 abbrev pub after : PlainFirmware → (compartments : List ℕ) → (queues : List (List ℕ)) → ℕ → SourceState
 after w c qs n = run (source_step (resolve w) c) n (start (resolve w) qs)
 
-abbrev pub told : PlainFirmware → (compartments : List ℕ) → (queues : List (List ℕ)) → ℕ → List Event
-told w c qs n = events (source_step (resolve w) c) (source_event (resolve w) c) n (start (resolve w) qs)
+abbrev pub run_events : PlainFirmware → (compartments : List ℕ) → (queues : List (List ℕ)) → ℕ → List Event
+run_events w c qs n = events (source_step (resolve w) c) (source_event (resolve w) c) n (start (resolve w) qs)

@@ -62,7 +62,7 @@ impl From<Failed> for Broken {
 /// # Errors
 ///
 /// There is no memory for it.
-pub fn begun<'a>(
+pub fn run_at_start<'a>(
     alloc: Global,
     firmware: &Checked,
     program: &'a Program<'a>,
@@ -101,7 +101,7 @@ fn print_run<O: Sink>(
     ensures part { IsTrue O.told → OnErr result
         (AddsPrefix (O.written out.old) (O.written out.new) (source_event_lines (firmware_of firmware.now) compartments.items tape steps)) }
 {
-    let mut run = begun(alloc, firmware, program, compartments, tape)?;
+    let mut run = run_at_start(alloc, firmware, program, compartments, tape)?;
     print_events(&mut run, windows, steps, out)
 }
 

@@ -1,4 +1,4 @@
--- Tables of names are those of the firmware.
+-- Names with their numbers are those of the firmware.
 use Rattle.std.proofs.Common.{◌≡◌, ℕ, List, [], ◌∷◌, map, refl, ap, ◌∙◌, Bor}
 use Rattle.ir_model.specs.declared.firmware.Func.{Func}
 use Rattle.ir_model.specs.Plain.{PlainFunc, func_of}

@@ -15,15 +15,15 @@ use Rattle.ir_model.specs.Resolved.{no_func, no_global}
 use Rattle.ir_model.specs.Resolve.{Scope, scope_of, resolved_func, resolved_global, resolve}
 use Rattle.ir_model.proofs.Limits.{Limited, limited, few_globals, few_periphs, few_functions}
 use Rattle.ir_laws.specs.Limits.{HasSmallObjects}
-use Rattle.ir_resolve.specs.declared.tables.Scope as code
-use Rattle.ir_resolve.specs.Scopes as tables
+use Rattle.ir_resolve.specs.declared.names.Scope as code
+use Rattle.ir_resolve.specs.Scopes as scopes
 use Rattle.ir_resolve.specs.Scopes.{AreFew, IsSmall, AreSmallGlobals, AreSmallBindings, IsSmallFunc, AreSmallFuncs}
 
 module _ (w : PlainFirmware) where
   abbrev scope : Scope
   scope = scope_of w
 
-  pub few_names : (s : code.Scope) → IsWithinLimits w → tables.scope_of s ≡ scope → AreFew s
+  pub few_names : (s : code.Scope) → IsWithinLimits w → scopes.scope_of s ≡ scope → AreFew s
   few_names s h e =
       let g = ap (λ (z : Scope). length z.globals) e in
       let p = ap (λ (z : Scope). length z.periphs) e in

@@ -2,10 +2,10 @@
 #![tactic(auto)]
 
 mod lookup;
+mod names;
 mod operations;
 pub mod resolving;
 mod routines;
 mod scope;
 mod storage;
-mod tables;
 mod variables;

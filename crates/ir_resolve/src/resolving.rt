@@ -12,9 +12,9 @@ ghost use Rattle.ir_program.specs.Seen.{program_of, variable_of, span_of, routin
 ghost use Rattle.ir_program.specs.declared.program.Variable.{Variable as VariableOf};
 ghost use Rattle.ir_resolve.specs.Scopes.{scope_of, AreFew, AreSmallGlobals, AreSmallFuncs};
 
+use crate::names::Scope;
 use crate::routines::{all_funcs, file_numbers, routines};
 use crate::scope::named_scope;
-use crate::tables::Scope;
 use crate::variables::variables;
 use base_lists::ListVec;
 use ir_laws::limits::sizes;

@@ -11,10 +11,10 @@ ghost use Rattle.ir_program.specs.Storages.{shape_of};
 ghost use Rattle.ir_resolve.specs.Scopes.{scope_of, AreFew, AreSmallBindings, IsSmallFunc, AreSmallFuncs};
 ghost use Rattle.ir_program.specs.declared.program.Storage.{Storage};
 
+use crate::names::Scope;
 use crate::operations::sequences;
-use crate::scope::func_tables;
+use crate::scope::names_in_func;
 use crate::storage::storage;
-use crate::tables::Scope;
 use base_lists::ListVec;
 use ir_layouts::table::Layouts;
 use ir_model::firmware::{Binding, Firmware, Func};
@@ -68,11 +68,11 @@ fn routine<'a>(
     ensures cells { IfOk result (λ r. local_counts r ≡ cell_counts (resolving.resolved_func (scope_of scope.now) (func_of source.now))) }
 {
     let locals = locals(alloc, &scope.layouts, source.locals.as_slice())?;
-    let tables = func_tables(alloc, source)?;
-    let blocks = sequences(alloc, scope, &tables)?;
+    let func = names_in_func(alloc, source)?;
+    let blocks = sequences(alloc, scope, &func)?;
     Ok(Routine {
         source,
-        registers: tables.into_types(),
+        registers: func.into_types(),
         locals,
         blocks,
     })

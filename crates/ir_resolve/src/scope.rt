@@ -8,10 +8,10 @@ ghost use Rattle.ir_model.specs.Typing.{IsTyped};
 ghost use Rattle.ir_model.specs.FewItems.{HasFewLocals};
 ghost use Rattle.ir_program.specs.Seen.{target_of};
 ghost use Rattle.ir_program.specs.Storages.{pointee_of};
-ghost use Rattle.ir_resolve.specs.Scopes.{scope_of, named_func, AreTables, AreFew};
+ghost use Rattle.ir_resolve.specs.Scopes.{scope_of, named_func, AreFuncNames, AreFew};
 
+use crate::names::{FuncNames, Scope};
 use crate::routines::register_types;
-use crate::tables::{FuncTables, Scope};
 use base_names::Name;
 use ir_firmware_names::{
     func_names, global_names, label_names, local_names, periph_names, register_names,
@@ -65,12 +65,12 @@ pub(crate) fn named_scope<'a>(
 /// # Errors
 ///
 /// There is no memory for them.
-pub(crate) fn func_tables(alloc: Global, source: &Func) -> Result<FuncTables<'_>, AllocError>
+pub(crate) fn names_in_func(alloc: Global, source: &Func) -> Result<FuncNames<'_>, AllocError>
     requires { HasFewLocals source.now }
-    ensures tables { IfOk result AreTables }
+    ensures names { IfOk result AreFuncNames }
     ensures same { IfOk result (λ t. t.source.now ≡ source.now) }
 {
-    Ok(FuncTables {
+    Ok(FuncNames {
         source,
         types: register_types(alloc, source)?,
         registers: register_names(alloc, source)?,
@@ -80,20 +80,20 @@ pub(crate) fn func_tables(alloc: Global, source: &Func) -> Result<FuncTables<'_>
 }
 
 /// The number of the register of a name, the parameters first, or how many registers there are.
-pub(crate) fn register_number(tables: &FuncTables, name: &Name) -> usize
-    requires { AreTables tables.now }
-    ensures { result ≡ resolving.register_number (named_func tables.now) name.now }
+pub(crate) fn register_number(func: &FuncNames, name: &Name) -> usize
+    requires { AreFuncNames func.now }
+    ensures { result ≡ resolving.register_number (named_func func.now) name.now }
 {
-    tables.registers.number_or_len(name)
+    func.registers.number_or_len(name)
 }
 
 /// The type of the register of a name; none where no register has it, as for u32.
-pub(crate) fn register_type<'a>(tables: &FuncTables<'a>, name: &Name) -> Option<&'a Ty>
-    requires { AreTables tables.now }
-    ensures { pointee_of result ≡ resolving.type_named (named_func tables.now) name.now }
+pub(crate) fn register_type<'a>(func: &FuncNames<'a>, name: &Name) -> Option<&'a Ty>
+    requires { AreFuncNames func.now }
+    ensures { pointee_of result ≡ resolving.type_named (named_func func.now) name.now }
 {
-    let number = register_number(tables, name);
-    let types = tables.types.as_slice();
+    let number = register_number(func, name);
+    let types = func.types.as_slice();
     if number < types.len() {
         Some(types[number])
     } else {
@@ -102,11 +102,11 @@ pub(crate) fn register_type<'a>(tables: &FuncTables<'a>, name: &Name) -> Option<
 }
 
 /// The number of the block of a label, or how many blocks there are.
-pub(crate) fn label_number(tables: &FuncTables, label: &Name) -> usize
-    requires { AreTables tables.now }
-    ensures { result ≡ number_of (resolving.labels_of (named_func tables.now)) label.now }
+pub(crate) fn label_number(func: &FuncNames, label: &Name) -> usize
+    requires { AreFuncNames func.now }
+    ensures { result ≡ number_of (resolving.labels_of (named_func func.now)) label.now }
 {
-    tables.labels.number_or_len(label)
+    func.labels.number_or_len(label)
 }
 
 /// The number of the function of a name, or how many functions there are.
@@ -118,12 +118,12 @@ pub(crate) fn func_number(scope: &Scope, name: &Name) -> u16
 }
 
 /// What `addr` names in a function: a local first.
-pub(crate) fn named(scope: &Scope, tables: &FuncTables, name: &Name) -> Target
+pub(crate) fn named(scope: &Scope, func: &FuncNames, name: &Name) -> Target
     requires few { AreFew scope.now }
-    requires tables { AreTables tables.now }
-    ensures { target_of result ≡ resolving.named_by (scope_of scope.now) (named_func tables.now) name.now }
+    requires names { AreFuncNames func.now }
+    ensures { target_of result ≡ resolving.named_by (scope_of scope.now) (named_func func.now) name.now }
 {
-    if let Some(number) = tables.locals.number(name) {
+    if let Some(number) = func.locals.number(name) {
         return Target::Local(number as u8);
     }
     if let Some(number) = scope.periphs.number(name) {

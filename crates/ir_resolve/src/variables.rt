@@ -9,9 +9,9 @@ ghost use Rattle.ir_program.specs.Values.{value_of};
 ghost use Rattle.ir_resolve.specs.Scopes.{scope_of, AreFew, IsSmall, AreSmallGlobals};
 ghost use Rattle.ir_program.specs.declared.program.Variable.{Variable};
 
+use crate::names::Scope;
 use crate::scope::func_number;
 use crate::storage::storage;
-use crate::tables::Scope;
 use base_lists::ListVec;
 use ir_model::firmware::{Cell, Firmware, Global as GlobalDecl};
 use ir_program::program::Variable;

@@ -10,7 +10,7 @@ use Rattle.ir_laws.specs.Sets.{Node, ObjectSets}
 use Rattle.need_sets.specs.Numbers.{object_number, numbering_of}
 use Rattle.need_numbers.specs.Rows.{Lists}
 use Rattle.need_sets.specs.Sets.{Sets, sets_of, row_of}
-use Rattle.need_sets.specs.Tables.{sets_by}
+use Rattle.need_sets.specs.Pairs.{sets_by}
 use Rattle.need_sets.specs.declared.system.System.{System}
 use Rattle.need_sets.specs.Rules.{Relation}
 use Rattle.need_sets.specs.Solutions.{ObeysAll, is_in, IsBounded}

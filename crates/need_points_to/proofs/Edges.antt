@@ -13,7 +13,7 @@ use Rattle.need_sets.specs.declared.numbering.Numbering.{Numbering}
 use Rattle.need_numbers.specs.Groups.{place_of}
 use Rattle.need_sets.specs.Numbers.{object_number, node_number, content_number, numbering_of}
 use Rattle.need_numbers.specs.Rows.{Lists}
-use Rattle.need_sets.specs.Tables.{is_pair, sets_by}
+use Rattle.need_sets.specs.Pairs.{is_pair, sets_by}
 use Rattle.need_numbers.proofs.GroupPlaces.{some_is, none_is}
 use Rattle.need_sets.specs.declared.rules.Edge.{Edge}
 use Rattle.need_sets.specs.declared.rules.Trigger.{Trigger}

@@ -10,7 +10,7 @@ use Rattle.plan_model.specs.PointsTo.{IsLeast}
 use Rattle.need_sets.specs.declared.numbering.Numbering.{Numbering}
 use Rattle.need_sets.specs.Numbers.{object_number, node_number, numbering_of}
 use Rattle.need_numbers.specs.Rows.{Lists}
-use Rattle.need_sets.specs.Tables.{is_pair, sets_by}
+use Rattle.need_sets.specs.Pairs.{is_pair, sets_by}
 use Rattle.need_sets.specs.declared.system.System.{System}
 use Rattle.need_sets.specs.Rules.{Relation, Obeys, lists_in}
 use Rattle.need_sets.specs.Solutions.{ObeysAll, is_in}

@@ -19,7 +19,7 @@ use Rattle.need_sets.specs.declared.numbering.Numbering.{Numbering}
 use Rattle.need_sets.specs.Numbers.{object_number, node_number, numbering_of}
 use Rattle.need_numbers.specs.Rows.{Lists, row}
 use Rattle.need_sets.specs.Sets.{Sets, same_object, sets_of, row_of}
-use Rattle.need_sets.specs.Tables.{sets_by}
+use Rattle.need_sets.specs.Pairs.{sets_by}
 use Rattle.need_sets.proofs.Members.{same_is}
 use Rattle.need_lists.proofs.Parts.{cases, in_none}
 use Rattle.need_sets.specs.Solutions.{is_in, total}

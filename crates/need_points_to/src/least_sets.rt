@@ -7,7 +7,7 @@ ghost use Rattle.ir_model.specs.State.{Object};
 ghost use Rattle.ir_program.specs.Seen.{program_of, HasCounts};
 ghost use Rattle.need_sets.specs.Numbers.{numbering_of};
 ghost use Rattle.need_sets.specs.Sets.{Sets, sets_of};
-ghost use Rattle.need_sets.specs.Tables.{sets_by};
+ghost use Rattle.need_sets.specs.Pairs.{sets_by};
 ghost use Rattle.plan_model.specs.PointsTo.{IsLeast};
 ghost use Rattle.need_points_to.specs.Edges.{IsWithinBound};
 

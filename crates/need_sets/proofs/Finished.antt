@@ -10,45 +10,45 @@ use Rattle.ir_model.specs.Objects.{object_by, compare_objects}
 use Rattle.ir_model.specs.State.{Object}
 use Rattle.plan_model.specs.Lists.{ListsExactly}
 use Rattle.need_sets.specs.declared.numbering.Numbering.{Numbering}
-use Rattle.need_sets.specs.Numbers.{node_number, object_number, IsTable}
+use Rattle.need_sets.specs.Numbers.{node_number, object_number, AreByNumber}
 use Rattle.need_numbers.specs.Rows.{Lists, row}
 use Rattle.need_sets.specs.Sets.{Sets, AreInOrder, same_object, row_at, sets_of}
-use Rattle.need_sets.specs.Tables.{IsWithin, has_number, is_pair, sets_by, object_at}
+use Rattle.need_sets.specs.Pairs.{IsWithin, has_number, is_pair, sets_by, object_at}
 use Rattle.need_sets.proofs.Numbered.{lists_numbers}
 
 -- the first so many rows are the objects of the lists' numbers
-pub record AreDone (table : List ObjId) (lists : Lists) (node : ℕ) (rows : List (List ObjId)) : Type 0 where
+pub record AreDone (by_number : List ObjId) (lists : Lists) (node : ℕ) (rows : List (List ObjId)) : Type 0 where
   pub count : length rows ≡ node
-  pub each : (n : ℕ) → n < node → ListsExactly compare_objects (Contains (map (object_at table) (row lists n))) (get_or rows n [])
+  pub each : (n : ℕ) → n < node → ListsExactly compare_objects (Contains (map (object_at by_number) (row lists n))) (get_or rows n [])
 
-pub one_more : (table : List ObjId) (lists : Lists) (node : ℕ) (rows : List (List ObjId)) (xs : List ObjId) → AreDone table lists node rows → ListsExactly compare_objects (Contains (map (object_at table) (row lists node))) xs → AreDone table lists (node + 1) (rows ++ xs ∷ [])
-one_more table lists node rows xs d e = record { count = (let a = length-append rows (xs ∷ []) in let b = d.count in omega arith); each = λ n l. at n l (cases_lt n node) }
+pub one_more : (by_number : List ObjId) (lists : Lists) (node : ℕ) (rows : List (List ObjId)) (xs : List ObjId) → AreDone by_number lists node rows → ListsExactly compare_objects (Contains (map (object_at by_number) (row lists node))) xs → AreDone by_number lists (node + 1) (rows ++ xs ∷ [])
+one_more by_number lists node rows xs d e = record { count = (let a = length-append rows (xs ∷ []) in let b = d.count in omega arith); each = λ n l. at n l (cases_lt n node) }
   where
-    at : (n : ℕ) → n < node + 1 → (n < node) ⊎ (node ≤ n) → ListsExactly compare_objects (Contains (map (object_at table) (row lists n))) (get_or (rows ++ xs ∷ []) n [])
-    at n l (inl h) = subst (ListsExactly compare_objects (Contains (map (object_at table) (row lists n)))) (sym (get_or_append_left rows (xs ∷ []) [] n (let b = d.count in omega arith))) (d.each n h)
+    at : (n : ℕ) → n < node + 1 → (n < node) ⊎ (node ≤ n) → ListsExactly compare_objects (Contains (map (object_at by_number) (row lists n))) (get_or (rows ++ xs ∷ []) n [])
+    at n l (inl h) = subst (ListsExactly compare_objects (Contains (map (object_at by_number) (row lists n)))) (sym (get_or_append_left rows (xs ∷ []) [] n (let b = d.count in omega arith))) (d.each n h)
     at n l (inr h) =
         let s : node ≡ n = omega arith in
-        subst (λ m. ListsExactly compare_objects (Contains (map (object_at table) (row lists m))) (get_or (rows ++ xs ∷ []) m [])) s
-        (subst (ListsExactly compare_objects (Contains (map (object_at table) (row lists node)))) (sym (get_or_push rows xs [] node d.count)) e)
+        subst (λ m. ListsExactly compare_objects (Contains (map (object_at by_number) (row lists m))) (get_or (rows ++ xs ∷ []) m [])) s
+        (subst (ListsExactly compare_objects (Contains (map (object_at by_number) (row lists node)))) (sym (get_or_push rows xs [] node d.count)) e)
 
 past : {X : Type 0} (xs : List (List X)) (n : ℕ) → length xs ≤ n → get_or xs n [] ≡ []
 past [] n l = refl
 past (x ∷ xs) zero l = absurd (omega arith)
 past (x ∷ xs) (suc n) l = past xs n (omega arith)
 
-pub in_order : (table : List ObjId) (lists : Lists) (node : ℕ) (rows : List (List ObjId)) → AreDone table lists node rows → AreInOrder rows
+pub in_order : (by_number : List ObjId) (lists : Lists) (node : ℕ) (rows : List (List ObjId)) → AreDone by_number lists node rows → AreInOrder rows
 unfolding IsStrictlySortedBy
-in_order table lists node rows d = λ n. at n (cases_lt n node)
+in_order by_number lists node rows d = λ n. at n (cases_lt n node)
   where
     at : (n : ℕ) → (n < node) ⊎ (node ≤ n) → IsStrictlySortedBy compare_objects (get_or rows n [])
     at n (inl h) = (d.each n h).rising
     at n (inr h) = subst (IsStrictlySortedBy compare_objects) (sym (past rows n (let b = d.count in omega arith))) tt
 
-listed : (c : Numbering) (table : List ObjId) (lists : Lists) (rows : List (List ObjId)) → IsTable c table → IsWithin (length table) lists → AreDone table lists (length lists) rows → (n : ℕ) (o : Object) → list_any (λ x. same_object (object_by x) o) (get_or rows n []) ≡ has_number (row lists n) (object_number c o)
-listed c table lists rows t w d n o = at (cases_lt n (length lists))
+listed : (c : Numbering) (by_number : List ObjId) (lists : Lists) (rows : List (List ObjId)) → AreByNumber c by_number → IsWithin (length by_number) lists → AreDone by_number lists (length lists) rows → (n : ℕ) (o : Object) → list_any (λ x. same_object (object_by x) o) (get_or rows n []) ≡ has_number (row lists n) (object_number c o)
+listed c by_number lists rows t w d n o = at (cases_lt n (length lists))
   where
     at : (n < length lists) ⊎ (length lists ≤ n) → list_any (λ x. same_object (object_by x) o) (get_or rows n []) ≡ has_number (row lists n) (object_number c o)
-    at (inl h) = lists_numbers c table (row lists n) (get_or rows n []) t (λ k l. w.each n k l) (d.each n h) o
+    at (inl h) = lists_numbers c by_number (row lists n) (get_or rows n []) t (λ k l. w.each n k l) (d.each n h) o
     at (inr h) =
         let e = past rows n (let b = d.count in omega arith) in
         let f = past lists n h in
@@ -58,21 +58,21 @@ listed c table lists rows t w d n o = at (cases_lt n (length lists))
         empty None = refl
         empty (Some j) = refl
 
-pub same_sets : (s : Sets) (table : List ObjId) (lists : Lists) → IsTable s.numbers table → IsWithin (length table) lists → AreDone table lists (length lists) s.rows → (n : Node) (o : Object) → sets_of s n o ≡ sets_by s.numbers lists n o
-same_sets s table lists t w d n o = at (node_number s.numbers n)
+pub same_sets : (s : Sets) (by_number : List ObjId) (lists : Lists) → AreByNumber s.numbers by_number → IsWithin (length by_number) lists → AreDone by_number lists (length lists) s.rows → (n : Node) (o : Object) → sets_of s n o ≡ sets_by s.numbers lists n o
+same_sets s by_number lists t w d n o = at (node_number s.numbers n)
   where
     at : (r : Option ℕ) → list_any (λ x. same_object (object_by x) o) (row_at s.rows r) ≡ is_pair lists r (object_number s.numbers o)
     at None = refl
-    at (Some k) = listed s.numbers table lists s.rows t w d k o
+    at (Some k) = listed s.numbers by_number lists s.rows t w d k o
 
 -- one row more, by the lists that were read
-pub one_pushed : (table t : List ObjId) (lists : Lists) (js : List ℕ) (node : ℕ) (rows new : List (List ObjId)) (xs : List ObjId) → t ≡ table → js ≡ row lists node → new ≡ rows ++ xs ∷ [] → AreDone table lists node rows → ListsExactly compare_objects (Contains (map (object_at t) js)) xs → AreDone table lists (node + 1) new
-one_pushed table t lists js node rows new xs a b e d h =
-    subst (AreDone table lists (node + 1)) (sym e)
-    (one_more table lists node rows xs d (subst (λ (s : List ObjId). ListsExactly compare_objects (Contains (map (object_at s) (row lists node))) xs) a (subst (λ (k : List ℕ). ListsExactly compare_objects (Contains (map (object_at t) k)) xs) b h)))
+pub one_pushed : (by_number t : List ObjId) (lists : Lists) (js : List ℕ) (node : ℕ) (rows new : List (List ObjId)) (xs : List ObjId) → t ≡ by_number → js ≡ row lists node → new ≡ rows ++ xs ∷ [] → AreDone by_number lists node rows → ListsExactly compare_objects (Contains (map (object_at t) js)) xs → AreDone by_number lists (node + 1) new
+one_pushed by_number t lists js node rows new xs a b e d h =
+    subst (AreDone by_number lists (node + 1)) (sym e)
+    (one_more by_number lists node rows xs d (subst (λ (s : List ObjId). ListsExactly compare_objects (Contains (map (object_at s) (row lists node))) xs) a (subst (λ (k : List ℕ). ListsExactly compare_objects (Contains (map (object_at t) k)) xs) b h)))
 
-pub sets_are : (c d : Numbering) (table : List ObjId) (lists : Lists) (rows : List (List ObjId)) (node : ℕ) → c ≡ d → IsTable c table → length table ≡ sum c.objects → IsWithin (sum d.objects) lists → AreDone table lists node rows → node ≡ length lists
+pub sets_are : (c d : Numbering) (by_number : List ObjId) (lists : Lists) (rows : List (List ObjId)) (node : ℕ) → c ≡ d → AreByNumber c by_number → length by_number ≡ sum c.objects → IsWithin (sum d.objects) lists → AreDone by_number lists node rows → node ≡ length lists
     → (n : Node) (o : Object) → sets_of (record { numbers = c; rows = rows }) n o ≡ sets_by d lists n o
-sets_are c d table lists rows node e t l w a m n o =
-    same_sets (record { numbers = c; rows = rows }) table lists t (subst (λ (k : ℕ). IsWithin k lists) (sym (l ∙ ap (λ (x : Numbering). sum x.objects) e)) w) (subst (λ (k : ℕ). AreDone table lists k rows) m a) n o
+sets_are c d by_number lists rows node e t l w a m n o =
+    same_sets (record { numbers = c; rows = rows }) by_number lists t (subst (λ (k : ℕ). IsWithin k lists) (sym (l ∙ ap (λ (x : Numbering). sum x.objects) e)) w) (subst (λ (k : ℕ). AreDone by_number lists k rows) m a) n o
     ∙ ap (λ (x : Numbering). sets_by x lists n o) e

@@ -12,9 +12,9 @@ use Rattle.plan_model.specs.Lists.{ListsExactly}
 use Rattle.need_sets.specs.declared.numbering.Numbering.{Numbering}
 use Rattle.need_numbers.specs.Groups.{place_of}
 use Rattle.need_numbers.proofs.GroupPlaces.{alone}
-use Rattle.need_sets.specs.Numbers.{object_number, IsTable}
+use Rattle.need_sets.specs.Numbers.{object_number, AreByNumber}
 use Rattle.need_sets.specs.Sets.{same_object}
-use Rattle.need_sets.specs.Tables.{has_number, object_at}
+use Rattle.need_sets.specs.Pairs.{has_number, object_at}
 use Rattle.need_sets.proofs.Members.{same_is, same_self}
 use Rattle.base_laws.proofs.Tests.{same_tests as same_truth}
 use Rattle.base_laws.proofs.Options.{guarded}
@@ -55,42 +55,42 @@ abbrev lists : List ObjId → Object → Bool
 lists xs o = list_any (λ x. same_object (object_by x) o) xs
 
 abbrev Below : List ℕ → List ObjId → Type 0
-Below js table = (k : ℕ) → k < length js → get_or js k 0 < length table
+Below js by_number = (k : ℕ) → k < length js → get_or js k 0 < length by_number
 
 abbrev Named : List ObjId → List ℕ → List ObjId → Type 0
-Named table js xs = ListsExactly compare_objects (Contains (map (object_at table) js)) xs
+Named by_number js xs = ListsExactly compare_objects (Contains (map (object_at by_number) js)) xs
 
 -- an object at the place of a number of the list has this number
-numbered : (c : Numbering) (table : List ObjId) (js : List ℕ) → IsTable c table → Below js table → (x : ObjId) → Contains (map (object_at table) js) x → has_number js (object_number c (object_by x)) ≡ true
-numbered c table js t below x h =
+numbered : (c : Numbering) (by_number : List ObjId) (js : List ℕ) → AreByNumber c by_number → Below js by_number → (x : ObjId) → Contains (map (object_at by_number) js) x → has_number js (object_number c (object_by x)) ≡ true
+numbered c by_number js t below x h =
     let m = h.0 in
-    let l : m < length js = let e = length-map js (object_at table) in let b = h.1 in omega arith in
+    let l : m < length js = let e = length-map js (object_at by_number) in let b = h.1 in omega arith in
     let j = get_or js m 0 in
-    let e : object_at table j ≡ x = sym (get_or-map (object_at table) js m 0 x l) ∙ h.2 in
+    let e : object_at by_number j ≡ x = sym (get_or-map (object_at by_number) js m 0 x l) ∙ h.2 in
     let n : object_number c (object_by x) ≡ Some j = subst (λ y. object_number c (object_by y) ≡ Some j) e (t.each j (Global 0) (below m l)) in
     subst (λ (r : Option ℕ). has_number js r ≡ true) (sym n) (list_any_at (nat_eq j) js m 0 l (eq-eqb j j refl))
 
-listed_has : (c : Numbering) (table : List ObjId) (js : List ℕ) (xs : List ObjId) → IsTable c table → Below js table → Named table js xs → (o : Object) → lists xs o ≡ true → has_number js (object_number c o) ≡ true
-listed_has c table js xs t below e o h =
+listed_has : (c : Numbering) (by_number : List ObjId) (js : List ℕ) (xs : List ObjId) → AreByNumber c by_number → Below js by_number → Named by_number js xs → (o : Object) → lists xs o ≡ true → has_number js (object_number c o) ≡ true
+listed_has c by_number js xs t below e o h =
     let a = Any-from_list_any (λ x. same_object (object_by x) o) xs h in
     let x = a.1 in
     let s : object_by x ≡ o = same_is (object_by x) o a.4 in
-    subst (λ (b : Object). has_number js (object_number c b) ≡ true) s (numbered c table js t below x (e.each x (a.0, a.2, a.3)))
+    subst (λ (b : Object). has_number js (object_number c b) ≡ true) s (numbered c by_number js t below x (e.each x (a.0, a.2, a.3)))
 
-found : (c : Numbering) (table : List ObjId) (js : List ℕ) (xs : List ObjId) → IsTable c table → Below js table → Named table js xs → (o : Object) (r : Option ℕ) → object_number c o ≡ r → has_number js r ≡ true → lists xs o ≡ true
-found c table js xs t below e o None n h = absurd (false≢true h)
-found c table js xs t below e o (Some j) n h =
+found : (c : Numbering) (by_number : List ObjId) (js : List ℕ) (xs : List ObjId) → AreByNumber c by_number → Below js by_number → Named by_number js xs → (o : Object) (r : Option ℕ) → object_number c o ≡ r → has_number js r ≡ true → lists xs o ≡ true
+found c by_number js xs t below e o None n h = absurd (false≢true h)
+found c by_number js xs t below e o (Some j) n h =
     let a = Any-from_list_any (nat_eq j) js h in
     let m = a.0 in
     let l : m < length js = a.2 in
     let i : get_or js m 0 ≡ j = get_or_default js m 0 a.1 l ∙ (a.3 ∙ sym (eqb-true j a.1 a.4)) in
-    let x = object_at table j in
-    let b : j < length table = subst (λ k. k < length table) i (below m l) in
+    let x = object_at by_number j in
+    let b : j < length by_number = subst (λ k. k < length by_number) i (below m l) in
     let s : object_by x ≡ o = same_number c (object_by x) o j (t.each j (Global 0) b) n in
-    let w : m < length (map (object_at table) js) = let q = length-map js (object_at table) in omega arith in
-    let u : get_or (map (object_at table) js) m x ≡ x = get_or-map (object_at table) js m 0 x l ∙ ap (object_at table) i in
+    let w : m < length (map (object_at by_number) js) = let q = length-map js (object_at by_number) in omega arith in
+    let u : get_or (map (object_at by_number) js) m x ≡ x = get_or-map (object_at by_number) js m 0 x l ∙ ap (object_at by_number) i in
     let v = e.all x (m, w, u) in
     list_any_at (λ y. same_object (object_by y) o) xs v.0 x v.1 (subst (λ y. same_object (object_by y) o ≡ true) (sym v.2) (subst (λ b. same_object (object_by x) b ≡ true) s (same_self (object_by x))))
 
-pub lists_numbers : (c : Numbering) (table : List ObjId) (js : List ℕ) (xs : List ObjId) → IsTable c table → Below js table → Named table js xs → (o : Object) → lists xs o ≡ has_number js (object_number c o)
-lists_numbers c table js xs t below e o = same_truth (lists xs o) (has_number js (object_number c o)) (listed_has c table js xs t below e o) (found c table js xs t below e o (object_number c o) refl)
+pub lists_numbers : (c : Numbering) (by_number : List ObjId) (js : List ℕ) (xs : List ObjId) → AreByNumber c by_number → Below js by_number → Named by_number js xs → (o : Object) → lists xs o ≡ has_number js (object_number c o)
+lists_numbers c by_number js xs t below e o = same_truth (lists xs o) (has_number js (object_number c o)) (listed_has c by_number js xs t below e o) (found c by_number js xs t below e o (object_number c o) refl)

@@ -2,7 +2,7 @@ pub mod Rules
 pub mod Demands
 pub mod Gathered
 pub mod Solutions
-pub mod Tables
+pub mod Pairs
 pub mod Nodes
 pub mod Numbers
 pub mod Sets

@@ -39,5 +39,5 @@ abbrev pub numbering_of : Program → Numbering
 numbering_of p = record { funcs = length p.funcs; objects = object_groups p; nodes = node_groups p (sum (object_groups p)) }
 
 -- each object stands at the place of its number
-pub record IsTable (c : Numbering) (table : List ObjId) : Type 0 where
-  pub each : (k : ℕ) (d : ObjId) → k < length table → object_number c (object_by (get_or table k d)) ≡ Some k
+pub record AreByNumber (c : Numbering) (by_number : List ObjId) : Type 0 where
+  pub each : (k : ℕ) (d : ObjId) → k < length by_number → object_number c (object_by (get_or by_number k d)) ≡ Some k

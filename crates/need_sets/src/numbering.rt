@@ -5,7 +5,7 @@ ghost use Rattle.std.specs.List.{sum};
 ghost use Rattle.need_numbers.specs.Groups.{place_of, start_of};
 ghost use Rattle.ir_model.specs.Objects.{object_by};
 ghost use Rattle.need_sets.specs.Nodes.{node_by};
-ghost use Rattle.need_sets.specs.Numbers.{object_number, node_number, IsTable};
+ghost use Rattle.need_sets.specs.Numbers.{object_number, node_number, AreByNumber};
 
 use crate::node::Node;
 use ir_model::object::ObjId;
@@ -55,15 +55,15 @@ impl Numbering {
         }
     }
 
-    fn put_items(&self, table: &mut Vec<ObjId>, group: usize) -> Result<(), AllocError>
+    fn put_items(&self, by_number: &mut Vec<ObjId>, group: usize) -> Result<(), AllocError>
         requires group { group < 3 + self.now.funcs }
-        requires count { length table.old.items ≡ start_of self.now.objects group }
-        requires table { IsTable self.now table.old.items }
-        ensures count { OnOk result (length table.new.items ≡ start_of self.now.objects (group + 1)) }
-        ensures table { OnOk result (IsTable self.now table.new.items) }
+        requires count { length by_number.old.items ≡ start_of self.now.objects group }
+        requires by_number { AreByNumber self.now by_number.old.items }
+        ensures count { OnOk result (length by_number.new.items ≡ start_of self.now.objects (group + 1)) }
+        ensures by_number { OnOk result (AreByNumber self.now by_number.new.items) }
     {
         for item in 0..self.objects.count(group) {
-            table.push(self.item(group, item))?;
+            by_number.push(self.item(group, item))?;
         }
         Ok(())
     }
@@ -75,14 +75,14 @@ impl Numbering {
     /// There is no memory for them.
     pub fn all_objects(&self, alloc: Global) -> Result<Vec<ObjId>, AllocError>
         requires { length self.now.objects ≡ 3 + self.now.funcs }
-        ensures count { IfOk result (λ table. length table.items ≡ sum self.now.objects) }
-        ensures table { IfOk result (λ table. IsTable self.now table.items) }
+        ensures count { IfOk result (λ by_number. length by_number.items ≡ sum self.now.objects) }
+        ensures by_number { IfOk result (λ by_number. AreByNumber self.now by_number.items) }
     {
-        let mut table = Vec::new(alloc);
+        let mut by_number = Vec::new(alloc);
         for group in 0..self.objects.len() {
-            self.put_items(&mut table, group)?;
+            self.put_items(&mut by_number, group)?;
         }
-        Ok(table)
+        Ok(by_number)
     }
 
     /// The number of an object; `None` if it is absent.

@@ -8,7 +8,7 @@ ghost use Rattle.ir_program.specs.Seen.{program_of};
 ghost use Rattle.need_sets.specs.Numbers.{numbering_of};
 ghost use Rattle.need_numbers.specs.Rows.{has, row, added};
 ghost use Rattle.need_sets.specs.Sets.{sets_of};
-ghost use Rattle.need_sets.specs.Tables.{ObjectRows, sets_by};
+ghost use Rattle.need_sets.specs.Pairs.{ObjectRows, sets_by};
 
 use crate::PointsTo;
 use crate::finish::finish;
@@ -34,7 +34,7 @@ impl Drop for Pairs {
 }
 
 impl Model for Pairs {
-    ghost use Rattle.need_sets.specs.Tables.{ObjectRows, IsWithin};
+    ghost use Rattle.need_sets.specs.Pairs.{ObjectRows, IsWithin};
 
     ghost Value = { ObjectRows };
 

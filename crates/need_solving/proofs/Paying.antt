@@ -3,7 +3,7 @@ use Rattle.std.proofs.Common.{◌≡◌, ℕ, zero, suc, ◌+◌, ◌-◌, ◌*�
 use Rattle.std.proofs.Math.Nat.{mul-le-mul_left}
 use Rattle.std.proofs.lemmas.Bool.{cases_lt}
 use Rattle.need_numbers.specs.Rows.{Lists, row, added}
-use Rattle.need_sets.specs.Tables.{ObjectRows}
+use Rattle.need_sets.specs.Pairs.{ObjectRows}
 use Rattle.need_sets.specs.declared.rules.Pair.{Pair}
 use Rattle.need_sets.specs.declared.rules.Edge.{Edge}
 use Rattle.need_solving.specs.declared.state.State.{State}

@@ -6,5 +6,5 @@ pub mod planner;
 pub mod refusal;
 
 pub use plan_layout::refusal::{Lack, Memory};
-pub use planner::{PlannedFirmware, planned};
+pub use planner::{PlannedFirmware, planned_firmware};
 pub use refusal::PlanningRefusal;

@@ -63,7 +63,7 @@ pub fn final_graph(
 }
 
 /// A graph with sizes and places.
-fn placed(
+fn placed_graph(
     alloc: Global,
     program: &Program,
     needs: &Needs,
@@ -102,7 +102,7 @@ fn planned_within_limits(
     if let Some(meeting) = first_meeting(board.denied.as_slice(), program, &graph) {
         return Err(PlanningRefusal::Denied(meeting));
     }
-    placed(alloc, program, needs, graph, board)
+    placed_graph(alloc, program, needs, graph, board)
 }
 
 /// A firmware planned for a board: the final graph of its compartments, the sizes of its code and its tables, and where the blocks of
@@ -112,7 +112,7 @@ fn planned_within_limits(
 ///
 /// There is no memory, a limit of what is compiled is passed, an address that the firmware asks for is one that the board denies, or the
 /// blocks have more bytes than a memory of the board.
-pub fn planned(
+pub fn planned_firmware(
     alloc: Global,
     program: &Program,
     needs: &Needs,

@@ -1,4 +1,4 @@
-mod Tables
+mod Numbers
 mod Analysing
 mod Counting
 mod OneList

@@ -16,49 +16,57 @@ use plan_model::groups::{FuncFacts, Groups};
 use plan_model::needs::Needs;
 use plan_policies::facts::facts;
 use plan_policies::grouping::{Grouping, groups};
-use plan_policies::tables::{filename_table, optimized_table, peripheral_table};
+use plan_policies::policies::{filename_groups, optimized_groups, peripheral_groups};
 use std::alloc::{AllocError, Global};
 
 /// More than the number of any group, and as many functions as there may be.
 const MOST: u32 = FUNCTION_LIMIT as u32;
 
 /// The group of each function by a policy.
-fn table(alloc: Global, facts: &[FuncFacts], policy: Policy) -> Result<Vec<u32>, AllocError>
+fn groups_by_policy(
+    alloc: Global,
+    facts: &[FuncFacts],
+    policy: Policy,
+) -> Result<Vec<u32>, AllocError>
     requires { AreFunctions facts.now }
     ensures { IfOk result (λ groups. groups.items ≡ divisions.groups_by policy facts.now) }
 {
     match policy {
-        Policy::Filename => filename_table(alloc, facts),
-        Policy::Optimized => optimized_table(alloc, facts),
-        Policy::Peripheral => peripheral_table(alloc, facts),
+        Policy::Filename => filename_groups(alloc, facts),
+        Policy::Optimized => optimized_groups(alloc, facts),
+        Policy::Peripheral => peripheral_groups(alloc, facts),
     }
 }
 
 /// Whether each number is that of a group.
-fn are_groups(table: &[u32]) -> bool
-    ensures { result ≡ list_all (λ g. nat_lt g function_limit) table.now }
+fn are_groups(numbers: &[u32]) -> bool
+    ensures { result ≡ list_all (λ g. nat_lt g function_limit) numbers.now }
 {
-    table.iter().all(|group| *group < MOST)
+    numbers.iter().all(|group| *group < MOST)
 }
 
-/// The compartments that a table of groups makes of functions.
+/// The compartments that the numbers of their groups make of functions.
 ///
 /// # Errors
 ///
 /// There is no memory for them, or functions or groups are more than those of any firmware.
-fn grouped(alloc: Global, table: &[u32], facts: &[FuncFacts]) -> Result<Groups, AllocError>
+fn compartments_of(
+    alloc: Global,
+    numbers: &[u32],
+    facts: &[FuncFacts],
+) -> Result<Groups, AllocError>
     requires { AreFunctions facts.now }
-    ensures { IfOk result (λ made. made ≡ compartments table.now) }
+    ensures { IfOk result (λ made. made ≡ compartments numbers.now) }
 {
     let count = facts.len();
-    if count == 0 || count > MOST as usize || table.len() != count || !are_groups(table) {
+    if count == 0 || count > MOST as usize || numbers.len() != count || !are_groups(numbers) {
         return Err(AllocError);
     }
-    let by_table = |facts: &FuncFacts| -> u32
-        requires { facts.now.index < length table.now }
-        ensures { result ≡ get_or table.entry.now facts.now.index 0 }
-    { table[facts.index as usize] };
-    let grouping = Grouping::new(by_table, count as u32, MOST);
+    let by_numbers = |facts: &FuncFacts| -> u32
+        requires { facts.now.index < length numbers.now }
+        ensures { result ≡ get_or numbers.entry.now facts.now.index 0 }
+    { numbers[facts.index as usize] };
+    let grouping = Grouping::new(by_numbers, count as u32, MOST);
     let made = groups(alloc, &grouping, facts);
     let Grouping {
         callback: _callback,
@@ -84,7 +92,7 @@ pub fn division(
     ensures are { IfOk result (AreCompartments (resolve (firmware_of firmware.now))) }
 {
     let facts = facts(alloc, firmware, needs)?;
-    let table = table(alloc, facts.as_slice(), policy)?;
-    let made = grouped(alloc, table.as_slice(), facts.as_slice())?;
+    let numbers = groups_by_policy(alloc, facts.as_slice(), policy)?;
+    let made = compartments_of(alloc, numbers.as_slice(), facts.as_slice())?;
     Ok(made)
 }

@@ -16,7 +16,7 @@ use ir_model::checked::Checked;
 use ir_program::program::Program;
 use ir_resolve::resolving::resolve;
 use need_points_to::solve;
-use plan::{PlannedFirmware, PlanningRefusal, planned};
+use plan::{PlannedFirmware, PlanningRefusal, planned_firmware};
 use plan_compartments::analysis::firmware_needs;
 use plan_compartments::division::division;
 use plan_model::Policy;
@@ -96,6 +96,6 @@ pub fn planned_by(
     ensures why { IfErr result (IsPlanningRefusal (program_of analysis.now.program) analysis.now.needs analysis.now.groups board.now) }
 {
     let groups = copied(alloc, &analysis.groups)?;
-    let made = planned(alloc, &analysis.program, &analysis.needs, groups, board)?;
+    let made = planned_firmware(alloc, &analysis.program, &analysis.needs, groups, board)?;
     Ok(made)
 }

@@ -5,7 +5,7 @@ ghost use Rattle.ir_program.specs.Seen.{program_of};
 ghost use Rattle.plan_model.specs.FinalGraph.{IsMerged};
 ghost use Rattle.plan_model.specs.Regions.{regions_used};
 
-use crate::merging::begun;
+use crate::merging::merging_of;
 use ir_program::program::Program;
 use plan_model::graph::{Final, Graph};
 use std::alloc::{AllocError, Global};
@@ -26,7 +26,7 @@ pub fn merge(
     ensures merged { IfOk result (λ last. IsMerged (program_of program.now) slots graph last) }
     ensures few { IfOk result (λ last. (c : ℕ) → c < last.groups.count → length (regions_used last.regions c) + length (get_or last.covers c []) ≤ slots) }
 {
-    let mut merging = begun(alloc, program, graph)?;
+    let mut merging = merging_of(alloc, program, graph)?;
     while merging.join(alloc, slots)? {}
     Ok(merging.into_graph().into_final())
 }

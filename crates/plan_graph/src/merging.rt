@@ -104,7 +104,7 @@ fn joined_region(
 /// # Errors
 ///
 /// There is no memory for it, or a cost has more than 64 bits.
-pub(crate) fn begun<'a, 'b>(
+pub(crate) fn merging_of<'a, 'b>(
     alloc: Global,
     program: &'a Program<'b>,
     graph: Graph,

@@ -1,5 +1,5 @@
 -- Beyond the program's claim: only laws, proofs and functions inside the tool cite this file.
--- Tables over the numbers of groups.
+-- Lists over the numbers of groups.
 use Rattle.std.specs.Prelude.{◌≡◌, ℕ, ◌<◌, Bool, false, List, length, get_or}
 use Rattle.plan_model.specs.Compartments.{compartment_number}
 use Rattle.plan_model.specs.Lists.{has}

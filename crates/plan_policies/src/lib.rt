@@ -6,4 +6,4 @@ pub mod facts;
 pub mod grouping;
 mod numbering;
 mod origins;
-pub mod tables;
+pub mod policies;

@@ -9,7 +9,7 @@ use std::process::Abort;
 use std::test::Fail;
 
 /// A number, the base and the size of a block, the eighths that are taken out, what it is for, and the words of its region.
-struct Block {
+struct MemoryBlock {
     number: u8,
     base: u32,
     bytes: u32,
@@ -19,20 +19,20 @@ struct Block {
 }
 
 #[rattlefmt::skip]
-const BLOCKS: &[Block] = &[
-    Block { number: 0, base: 0, bytes: 0x4000_0000, srd: 0, rights: Rights::Background, words: (0x0000_0010, 0x1206_003b) },
-    Block { number: 1, base: 0x0800_0000, bytes: 2048, srd: 0, rights: Rights::Code, words: (0x0800_0011, 0x0602_0015) },
-    Block { number: 3, base: 0x2000_f800, bytes: 2048, srd: 0, rights: Rights::Stack, words: (0x2000_f813, 0x1306_0015) },
-    Block { number: 3, base: 0x2000_f800, bytes: 2048, srd: 0xf0, rights: Rights::Stack, words: (0x2000_f813, 0x1306_f015) },
-    Block { number: 4, base: 0x4001_2000, bytes: 1024, srd: 0, rights: Rights::Device, words: (0x4001_2014, 0x1301_0013) },
-    Block { number: 5, base: 0x2000_0400, bytes: 1024, srd: 0, rights: Rights::Ram, words: (0x2000_0415, 0x1306_0013) },
-    Block { number: 6, base: 0x2000_0c00, bytes: 32, srd: 0, rights: Rights::Ram, words: (0x2000_0c16, 0x1306_0009) },
-    Block { number: 7, base: 0x2000_0700, bytes: 256, srd: 0, rights: Rights::Ram, words: (0x2000_0717, 0x1306_000f) },
-    Block { number: 4, base: 0x2000_0c00, bytes: 1024, srd: 0xe0, rights: Rights::Ram, words: (0x2000_0c14, 0x1306_e013) },
-    Block { number: 4, base: 0x2000_0f00, bytes: 256, srd: 0x80, rights: Rights::Ram, words: (0x2000_0f14, 0x1306_800f) },
+const BLOCKS: &[MemoryBlock] = &[
+    MemoryBlock { number: 0, base: 0, bytes: 0x4000_0000, srd: 0, rights: Rights::Background, words: (0x0000_0010, 0x1206_003b) },
+    MemoryBlock { number: 1, base: 0x0800_0000, bytes: 2048, srd: 0, rights: Rights::Code, words: (0x0800_0011, 0x0602_0015) },
+    MemoryBlock { number: 3, base: 0x2000_f800, bytes: 2048, srd: 0, rights: Rights::Stack, words: (0x2000_f813, 0x1306_0015) },
+    MemoryBlock { number: 3, base: 0x2000_f800, bytes: 2048, srd: 0xf0, rights: Rights::Stack, words: (0x2000_f813, 0x1306_f015) },
+    MemoryBlock { number: 4, base: 0x4001_2000, bytes: 1024, srd: 0, rights: Rights::Device, words: (0x4001_2014, 0x1301_0013) },
+    MemoryBlock { number: 5, base: 0x2000_0400, bytes: 1024, srd: 0, rights: Rights::Ram, words: (0x2000_0415, 0x1306_0013) },
+    MemoryBlock { number: 6, base: 0x2000_0c00, bytes: 32, srd: 0, rights: Rights::Ram, words: (0x2000_0c16, 0x1306_0009) },
+    MemoryBlock { number: 7, base: 0x2000_0700, bytes: 256, srd: 0, rights: Rights::Ram, words: (0x2000_0717, 0x1306_000f) },
+    MemoryBlock { number: 4, base: 0x2000_0c00, bytes: 1024, srd: 0xe0, rights: Rights::Ram, words: (0x2000_0c14, 0x1306_e013) },
+    MemoryBlock { number: 4, base: 0x2000_0f00, bytes: 256, srd: 0x80, rights: Rights::Ram, words: (0x2000_0f14, 0x1306_800f) },
 ];
 
-fn check_block(rt: &impl Abort, block: &Block) -> Result<(), Fail> {
+fn check_block(rt: &impl Abort, block: &MemoryBlock) -> Result<(), Fail> {
     let size = Pow2::new(block.bytes).ok_or("a power of two")?;
     assert!(rt; block.number < 16);
     assert!(rt; size.get() >= 32);

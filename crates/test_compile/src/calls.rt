@@ -42,13 +42,13 @@ impl Program for Calls {
         };
         match made {
             Ok(()) => 0,
-            Err(error) => told(alloc, err, &error),
+            Err(error) => failure_status(alloc, err, &error),
         }
     }
 }
 
 /// Writes on `err` why a call was not carried out, and answers its status.
-fn told(alloc: Global, err: &mut MemSink, error: &Error) -> u8 {
+fn failure_status(alloc: Global, err: &mut MemSink, error: &Error) -> u8 {
     if let Ok(line) = format!(in alloc; "{error}\n") {
         let _ = err.put(line.as_bytes());
     }

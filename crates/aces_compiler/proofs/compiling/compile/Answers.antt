@@ -2,8 +2,8 @@ use Rattle.ir_model.specs.Plain.{firmware_of}
 use Rattle.plan_firmwares.proofs.Analysing.{each_need}
 use Rattle.aces_compiler.proofs.compiling.compile.Goals as goal
 
-pub grouped-requires-clause-needs : goal.grouped-requires-clause-needs
-grouped-requires-clause-needs g c = each_need (firmware_of c.args.firmware.now) c.args.board.now.closed c.args.analysis.now.needs c.requires.needs
+pub compartments_of-requires-clause-needs : goal.compartments_of-requires-clause-needs
+compartments_of-requires-clause-needs g c = each_need (firmware_of c.args.firmware.now) c.args.board.now.closed c.args.analysis.now.needs c.requires.needs
 
 pub returns-clause-ok : goal.returns-clause-ok
 returns-clause-ok g c =

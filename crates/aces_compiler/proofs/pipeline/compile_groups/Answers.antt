@@ -7,12 +7,12 @@ use Rattle.aces_compiler.specs.Compiled.{IsImageFor}
 use Rattle.aces_compiler.proofs.Parts.{in_own_groups}
 use Rattle.aces_compiler.proofs.pipeline.compile_groups.Goals as goal
 
-pub linked-requires-clause-groups : goal.linked-requires-clause-groups
-linked-requires-clause-groups c =
+pub promised_image-requires-clause-groups : goal.promised_image-requires-clause-groups
+promised_image-requires-clause-groups c =
     subst (AreCompartments (resolve (firmware_of c.args.firmware.now))) (sym c.in_ok-plan.ensures.ok.groups) c.requires.groups
 
-pub linked-requires-clause-planned : goal.linked-requires-clause-planned
-linked-requires-clause-planned c =
+pub promised_image-requires-clause-planned : goal.promised_image-requires-clause-planned
+promised_image-requires-clause-planned c =
     in_own_groups (resolve (firmware_of c.args.firmware.now)) c.args.analysis.now.needs c.args.board.now c.args.groups c.in_ok-plan.plan c.in_ok-plan.ensures.ok
 
 pub returns-clause-ok : goal.returns-clause-ok

@@ -17,17 +17,17 @@ returns-in_err-made-clause-refused c =
     let x = err_from_is_err_and c.from_residual.result c.from_residual.ensures.1 in
     rw x.1 (unplanned c.args.policy (firmware_of c.args.firmware.now) b a c.requires.analysis x.0 (subst (IsRefusalOf a b) (sym x.2) c.in_err-made.ensures.refused))
 
-pub linked-requires-clause-program : goal.linked-requires-clause-program
-linked-requires-clause-program c = c.requires.analysis.program
+pub promised_image-requires-clause-program : goal.promised_image-requires-clause-program
+promised_image-requires-clause-program c = c.requires.analysis.program
 
-pub linked-requires-clause-needs : goal.linked-requires-clause-needs
-linked-requires-clause-needs c = c.requires.analysis.needs
+pub promised_image-requires-clause-needs : goal.promised_image-requires-clause-needs
+promised_image-requires-clause-needs c = c.requires.analysis.needs
 
-pub linked-requires-clause-groups : goal.linked-requires-clause-groups
-linked-requires-clause-groups c = (c.in_ok-made.ensures.ok c.args.policy (firmware_of c.args.firmware.now) c.requires.analysis).compartments
+pub promised_image-requires-clause-groups : goal.promised_image-requires-clause-groups
+promised_image-requires-clause-groups c = (c.in_ok-made.ensures.ok c.args.policy (firmware_of c.args.firmware.now) c.requires.analysis).compartments
 
-pub linked-requires-clause-planned : goal.linked-requires-clause-planned
-linked-requires-clause-planned c =
+pub promised_image-requires-clause-planned : goal.promised_image-requires-clause-planned
+promised_image-requires-clause-planned c =
     let w = firmware_of c.args.firmware.now in
     let n = c.args.analysis.now.needs in
     in_own_groups (resolve w) n c.args.board.now (division c.args.policy w n) c.in_ok-made.made (c.in_ok-made.ensures.ok c.args.policy w c.requires.analysis).planned

@@ -7,12 +7,12 @@ use Rattle.plan.specs.Planned.{IsPlannedFor}
 use Rattle.aces_compiler.proofs.Parts.{routines}
 use Rattle.aces_compiler.proofs.pipeline.plan_of_groups.Goals as goal
 
-pub planned-requires-clause-needs : goal.planned-requires-clause-needs
-planned-requires-clause-needs c =
+pub planned_firmware-requires-clause-needs : goal.planned_firmware-requires-clause-needs
+planned_firmware-requires-clause-needs c =
     each_compartment (resolve (firmware_of c.args.firmware.now)) c.args.groups c.requires.groups ∙ sym c.requires.needs.needs.count
 
-pub planned-requires-clause-each : goal.planned-requires-clause-each
-planned-requires-clause-each c =
+pub planned_firmware-requires-clause-each : goal.planned_firmware-requires-clause-each
+planned_firmware-requires-clause-each c =
     let w = firmware_of c.args.firmware.now in
     each_compartment (resolve w) c.args.groups c.requires.groups ∙ sym (routines c.args.analysis.now.program w c.requires.program)
 

@@ -7,8 +7,8 @@ use Rattle.aces_compiler.proofs.Parts.{plan_is}
 use Rattle.aces_compiler.proofs.Replaced.{beyond, too_long, with_code}
 use Rattle.aces_compiler.proofs.replacing.groups_with_code.Goals as goal
 
-pub written-requires-clause-plan : goal.written-requires-clause-plan
-written-requires-clause-plan c =
+pub image_of_plan-requires-clause-plan : goal.image_of_plan-requires-clause-plan
+image_of_plan-requires-clause-plan c =
     let w = firmware_of c.args.firmware.now in
     let made = c.in-Ok.made in
     plan_is w c.args.analysis.now.needs c.args.board.now c.args.groups made c.in-Ok.ensures.ok

@@ -17,26 +17,26 @@ put_args-requires-clause-room c =
     let d : ℤ = distance (here a + total (plain (args_code 0 as_))) c.args.entry in
     first_fits a (call_items (here a) c.args.entry None c.args.to as_) (plain (args_code 0 as_)) (plain (BranchLink d ∷ []) ++ plain (save_code c.args.to)) (near_call_parts as_ d c.args.to) c.requires.room
 
-pub link-requires-clause-low : goal.link-requires-clause-low
-link-requires-clause-low c =
+pub branch_with_link-requires-clause-low : goal.branch_with_link-requires-clause-low
+branch_with_link-requires-clause-low c =
     let e = ap here c.in_ok-put_args.ensures ∙ here_more c.args.asm.now (plain (args_code 0 c.args.args.now)) in
     let r = link_reaches c.args.asm.now c.args.entry c.args.to c.args.args.now c.requires.even c.requires.entry c.requires.room in
     omega (arith, r.low, c.here-from.ensures)
 
-pub link-requires-clause-back : goal.link-requires-clause-back
-link-requires-clause-back c =
+pub branch_with_link-requires-clause-back : goal.branch_with_link-requires-clause-back
+branch_with_link-requires-clause-back c =
     let e = ap here c.in_ok-put_args.ensures ∙ here_more c.args.asm.now (plain (args_code 0 c.args.args.now)) in
     let r = link_reaches c.args.asm.now c.args.entry c.args.to c.args.args.now c.requires.even c.requires.entry c.requires.room in
     omega (arith, r.back, c.here-from.ensures)
 
-pub link-requires-clause-forward : goal.link-requires-clause-forward
-link-requires-clause-forward c =
+pub branch_with_link-requires-clause-forward : goal.branch_with_link-requires-clause-forward
+branch_with_link-requires-clause-forward c =
     let e = ap here c.in_ok-put_args.ensures ∙ here_more c.args.asm.now (plain (args_code 0 c.args.args.now)) in
     let r = link_reaches c.args.asm.now c.args.entry c.args.to c.args.args.now c.requires.even c.requires.entry c.requires.room in
     omega (arith, r.forward, c.here-from.ensures)
 
-pub link-requires-clause-from_even : goal.link-requires-clause-from_even
-link-requires-clause-from_even c =
+pub branch_with_link-requires-clause-from_even : goal.branch_with_link-requires-clause-from_even
+branch_with_link-requires-clause-from_even c =
     let e = ap here c.in_ok-put_args.ensures ∙ here_more c.args.asm.now (plain (args_code 0 c.args.args.now)) in
     let r = link_reaches c.args.asm.now c.args.entry c.args.to c.args.args.now c.requires.even c.requires.entry c.requires.room in
     omega (arith, r.even, c.here-from.ensures)
@@ -50,7 +50,7 @@ put-requires-clause-room c =
     let x : List Item = plain (BranchLink d ∷ []) in
     let s : List Item = plain (save_code c.args.to) in
     let f : c.here-from.result ≡ from = c.here-from.ensures ∙ (ap here c.in_ok-put_args.ensures ∙ here_more a (plain (args_code 0 as_))) in
-    let is : c.link.result ≡ BranchLink d = c.link.ensures.code ∙ ap (λ n. BranchLink (distance n c.args.entry)) f in
+    let is : c.branch_with_link.result ≡ BranchLink d = c.branch_with_link.ensures.code ∙ ap (λ n. BranchLink (distance n c.args.entry)) f in
     let r = rest_fits a (call_items (here a) c.args.entry None c.args.to as_) (plain (args_code 0 as_)) (x ++ s) (near_call_parts as_ d c.args.to) _ c.in_ok-put_args.ensures c.requires.room in
     rw is (first_fits c.put_args.new.asm (x ++ s) x s refl r)
 
@@ -63,7 +63,7 @@ put_result-requires-clause-room c =
     let x : List Item = plain (BranchLink d ∷ []) in
     let s : List Item = plain (save_code c.args.to) in
     let f : c.here-from.result ≡ from = c.here-from.ensures ∙ (ap here c.in_ok-put_args.ensures ∙ here_more a (plain (args_code 0 as_))) in
-    let is : c.link.result ≡ BranchLink d = c.link.ensures.code ∙ ap (λ n. BranchLink (distance n c.args.entry)) f in
+    let is : c.branch_with_link.result ≡ BranchLink d = c.branch_with_link.ensures.code ∙ ap (λ n. BranchLink (distance n c.args.entry)) f in
     let r = rest_fits a (call_items (here a) c.args.entry None c.args.to as_) (plain (args_code 0 as_)) (x ++ s) (near_call_parts as_ d c.args.to) _ c.in_ok-put_args.ensures c.requires.room in
     rest_fits c.put_args.new.asm (x ++ s) x s refl _ (rw is at c.in_ok-put.ensures) r
 
@@ -77,7 +77,7 @@ returns c =
     let s : List Item = plain (save_code c.args.to) in
     let zs : List Item = call_items (here a) c.args.entry None c.args.to as_ in
     let f : c.here-from.result ≡ from = c.here-from.ensures ∙ (ap here c.in_ok-put_args.ensures ∙ here_more a (plain (args_code 0 as_))) in
-    let is : c.link.result ≡ BranchLink d = c.link.ensures.code ∙ ap (λ n. BranchLink (distance n c.args.entry)) f in
+    let is : c.branch_with_link.result ≡ BranchLink d = c.branch_with_link.ensures.code ∙ ap (λ n. BranchLink (distance n c.args.entry)) f in
     on_ok_weaker _
     (λ h. both_put a zs (plain (args_code 0 as_)) (x ++ s) (near_call_parts as_ d c.args.to) c.put_args.new.asm c.put_result.new.asm c.in_ok-put_args.ensures
     (both_put c.put_args.new.asm (x ++ s) x s refl c.put.new.asm c.put_result.new.asm (rw is at c.in_ok-put.ensures) h))

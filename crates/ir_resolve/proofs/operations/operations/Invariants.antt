@@ -6,4 +6,4 @@ use Rattle.ir_resolve.specs.Scopes.{scope_of}
 use Rattle.ir_resolve.proofs.operations.operations.Given as goal
 
 abbrev pub invariant-loop-i : goal.invariant-loop-i
-invariant-loop-i l = map (operation_of (scope_of l.scope).known) l.operations.items ≡ map (resolving.resolved_inst (scope_of l.scope) (named_func l.tables)) (take l.i l.insts)
+invariant-loop-i l = map (operation_of (scope_of l.scope).known) l.operations.items ≡ map (resolving.resolved_inst (scope_of l.scope) (named_func l.func)) (take l.i l.insts)

@@ -4,4 +4,4 @@ use Rattle.ir_model.specs.Resolve as resolving
 use Rattle.ir_resolve.proofs.operations.register_numbers.Given as goal
 
 abbrev pub invariant-loop-name : goal.invariant-loop-name
-invariant-loop-name l = l.numbers.items ≡ map (resolving.register_number (named_func l.tables)) (take l.name-index l.names)
+invariant-loop-name l = l.numbers.items ≡ map (resolving.register_number (named_func l.func)) (take l.name-index l.names)

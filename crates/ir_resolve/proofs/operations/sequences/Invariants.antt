@@ -6,4 +6,4 @@ use Rattle.ir_resolve.specs.Scopes.{scope_of}
 use Rattle.ir_resolve.proofs.operations.sequences.Given as goal
 
 abbrev pub invariant-loop-i : goal.invariant-loop-i
-invariant-loop-i l = map (sequence_of (scope_of l.scope).known) l.sequences.items ≡ map (resolving.resolved_block (scope_of l.scope) (named_func l.tables)) (take l.i l.blocks)
+invariant-loop-i l = map (sequence_of (scope_of l.scope).known) l.sequences.items ≡ map (resolving.resolved_block (scope_of l.scope) (named_func l.func)) (take l.i l.blocks)

@@ -2,7 +2,7 @@ use Rattle.std.proofs.lemmas.Result.{IfOk-weaker}
 use Rattle.ir_program.specs.Seen.{program_of}
 use Rattle.need_sets.specs.Numbers.{numbering_of}
 use Rattle.need_sets.specs.Sets.{sets_of}
-use Rattle.need_sets.specs.Tables.{sets_by}
+use Rattle.need_sets.specs.Pairs.{sets_by}
 use Rattle.need_points_to.proofs.Least.{least_same}
 use Rattle.need_points_to.proofs.least_sets.solve_counted.Goals as goal
 

@@ -1,6 +1,6 @@
 use Rattle.std.proofs.Common.{ap, ◌∙◌, length, []}
 use Rattle.std.proofs.lemmas.List.{length-replicate}
-use Rattle.need_sets.specs.Tables.{ObjectRows}
+use Rattle.need_sets.specs.Pairs.{ObjectRows}
 use Rattle.need_solving.proofs.Running.{sound_begin}
 use Rattle.need_solving.proofs.search.begin.Goals as goal
 
