@@ -25,6 +25,7 @@ use Rattle.image_model.specs.LinkedImage.{linked}
 use Rattle.image_promises.specs.Planned.{planned_tables, planned_image}
 use Rattle.plan.specs.PlannedFirmwares.{IsPlanned, plan}
 use Rattle.image_promises.specs.Laws.{FlashReadsBack}
+use Rattle.image_promises.proofs.PlannedPremises.{planned_of}
 use Rattle.image_promises.proofs.Facts.{laid, length_is, flash_least, stack_in, monitor_in}
 use Rattle.plan_model.proofs.KeptLimits.{few}
 use Rattle.image_promises.proofs.ReadBack.{ReadLaws}
@@ -66,7 +67,7 @@ module _ (law : WordLaws) (w : PlainFirmware) (n : Needs) (f : Final) (b : Board
   stack_word : (t.stack.base < 2 ^ 32) × (t.stack.size < 2 ^ 32)
   unfolding tables_of
   stack_word =
-      let ends = (stack_in law.read.plans w n f b ok).0.1 in
+      let ends = (stack_in law.read.plans (planned_of ok)).0.1 in
       let top = ok.board.ram_highest in
       let size = ok.board.ram_size.most in
       (omega (arith, ends, top, size), omega (arith, ends, top, size))
@@ -74,7 +75,7 @@ module _ (law : WordLaws) (w : PlainFirmware) (n : Needs) (f : Final) (b : Board
   monitor_word : t.monitor < 2 ^ 32
   unfolding tables_of
   monitor_word =
-      let ends = (monitor_in law.read.plans w n f b ok).0.1 in
+      let ends = (monitor_in law.read.plans (planned_of ok)).0.1 in
       let top = ok.board.ram_highest in
       let size = ok.board.ram_size.most in
       omega (arith, ends, top, size)
@@ -114,15 +115,15 @@ module _ (law : WordLaws) (w : PlainFirmware) (n : Needs) (f : Final) (b : Board
 
   area_read : FlashReadsBack → Reads (drop 4096 (planned_image w n f b).flash) 0 (area t)
   area_read back =
-      let size = length_is law.read.plans w n f b ok in
-      let least = flash_least law.read.plans w n f b ok in
+      let size = length_is law.read.plans (planned_of ok) in
+      let least = flash_least law.read.plans (planned_of ok) in
       each_word (drop 4096 (planned_image w n f b).flash) (area t) 0
       (λ k lt. behind_page (planned_image w n f b).flash 4096 (0 + 4 * k) (omega (arith, size, least))
       ∙ ((let e : 4096 + (0 + 4 * k) ≡ 4096 + 4 * k = omega arith in ap (λ o. read 4 o (planned_image w n f b).flash) e) ∙ area_stands back k lt))
 
   base_is : t.base ≡ b.flash_base
   unfolding tables_of
-  base_is = (laid law.read.plans w n f b ok).vectors
+  base_is = (laid law.read.plans (planned_of ok)).vectors
 
   closed_is : t.closed ≡ b.closed
   unfolding tables_of

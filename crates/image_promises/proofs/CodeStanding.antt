@@ -22,6 +22,7 @@ use Rattle.monitor_program.specs.TheCode.{monitor_code}
 use Rattle.image_promises.specs.Planned.{planned_image}
 use Rattle.plan.specs.PlannedFirmwares.{IsPlanned, plan, planned_sizes}
 use Rattle.image_promises.specs.Laws.{FlashReadsBack}
+use Rattle.image_promises.proofs.PlannedPremises.{planned_of}
 use Rattle.image_promises.proofs.Facts.{length_is, code_blocks_count}
 use Rattle.image_promises.proofs.FlashParts.{code_ends}
 use Rattle.image_promises.proofs.ReadBack.{code_fits}
@@ -72,11 +73,11 @@ module _ (law : CodeLaws) (has : FlashReadsBack) (w : PlainFirmware) (n : Needs)
     where
       room : offset c + length (planned_code p n f l c) ≤ length i.flash
       room =
-          let m = code_blocks_count law.read.plans w n f b ok in
+          let m = code_blocks_count law.read.plans (planned_of ok) in
           let end = code_ends p f s b c (omega (arith, there, m)) in
           let from = from_base law.read law.placed monitor_code w n f b ok c there in
           let fit = code_fits law.read w n f b ok c there in
-          let z = length_is law.read.plans w n f b ok in
+          let z = length_is law.read.plans (planned_of ok) in
           omega (arith, end, from, fit, z)
 
   pub code_stands : ItemsStand → ObeysRules i → (c : ℕ) → c < f.groups.count →

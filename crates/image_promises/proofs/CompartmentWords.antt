@@ -27,6 +27,7 @@ use Rattle.monitor_model.specs.Area.{region_words, compartment_words}
 use Rattle.image_model.specs.LinkedTables.{comp_record, tables_of}
 use Rattle.image_promises.specs.Planned.{planned_tables}
 use Rattle.plan.specs.PlannedFirmwares.{IsPlanned, plan, planned_sizes}
+use Rattle.image_promises.proofs.PlannedPremises.{planned_of}
 use Rattle.image_promises.proofs.Facts.{PlanLaws, laid, code_blocks_count}
 use Rattle.image_promises.proofs.FlashParts.{code_count}
 use Rattle.image_promises.proofs.Ranges.{block_in}
@@ -77,9 +78,9 @@ module _ (law : PlanLaws) (apart : WindowsLieApart) (w : PlainFirmware) (n : Nee
 
   code_fits : (c : ℕ) → c < f.groups.count → AreWords (region_words (code_region l c))
   code_fits c lt =
-      let m = code_blocks_count law w n f b ok in
+      let m = code_blocks_count law (planned_of ok) in
       let e = code_count p f s b in
-      let ends = ((laid law w n f b ok).inside c (omega (arith, lt, m, e))).1 in
+      let ends = ((laid law (planned_of ok)).inside c (omega (arith, lt, m, e))).1 in
       let top = ok.board.flash_highest in
       let size = ok.board.flash_size.most in
       region_fits 2 (compartment_spot l c).base (compartment_spot l c).size 0 Code (lit< tt) (omega (arith, ends, top, size)) (lit< tt)

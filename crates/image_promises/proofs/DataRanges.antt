@@ -22,6 +22,7 @@ use Rattle.image_model.specs.LinkedImage.{linked}
 use Rattle.image_model.specs.LinkedTables.{tables_of}
 use Rattle.image_promises.specs.Planned.{planned_tables, planned_image}
 use Rattle.plan.specs.PlannedFirmwares.{IsPlanned, planned_sizes, plan}
+use Rattle.image_promises.proofs.PlannedPremises.{planned_of}
 use Rattle.image_promises.proofs.Facts.{PlanLaws, stack_least, stack_size_is, monitor_size_is}
 use Rattle.plan_model.proofs.Powers.{small_block}
 use Rattle.image_promises.proofs.OpenBytes.{words_held}
@@ -80,14 +81,14 @@ module _ (law : PlanLaws) (w : PlainFirmware) (n : Needs) (f : Final) (b : Board
 
   off_stack : AreApart spot.base (open_bytes spot.size bytes) l.stack.base l.stack.size
   off_stack =
-      let size = stack_size_is law w n f b is in
-      let least = stack_least law w n f b is in
+      let size = stack_size_is law (planned_of is) in
+      let least = stack_least law (planned_of is) in
       apart_from spot.base (open_bytes spot.size bytes) l.stack.base l.stack.size some (omega (arith, size, least))
       (λ x a c d g. law.apart p f s b (ForRegion r) ForStack x (λ q. cc) (a, c) (d, g))
 
   off_monitor : AreApart spot.base (open_bytes spot.size bytes) l.monitor.base block_size
   off_monitor =
-      let size = monitor_size_is law w n f b is in
+      let size = monitor_size_is law (planned_of is) in
       apart_from spot.base (open_bytes spot.size bytes) l.monitor.base block_size some (lit< tt)
       (λ x a c d g. law.apart p f s b (ForRegion r) ForMonitor x (λ q. cc) (a, c) (d, omega (arith, size, g)))
 

@@ -20,6 +20,7 @@ use Rattle.refine.specs.Areas.{Area, Beside, Laid}
 use Rattle.base_laws.specs.Lists.{Each}
 use Rattle.refine.specs.Relation.{cells_at, objects_at}
 use Rattle.plan.specs.PlannedFirmwares.{IsPlanned, plan}
+use Rattle.image_promises.proofs.PlannedPremises.{planned_of}
 use Rattle.image_promises.proofs.Facts.{stack_in, stack_size_is, stack_least, monitor_in, monitor_size_is}
 use Rattle.image_promises.proofs.Passing.{apart_from}
 use Rattle.base_laws.proofs.Multiples.{IsMultiple, through, both, no_rest}
@@ -150,11 +151,11 @@ module _ (law : GlobalLaws) (w : PlainFirmware) (n : Needs) (f : Final) (b : Boa
   cell_off x m c i =
       let low = i.low in
       let high = i.high in
-      let stack = (stack_in law.plans w n f b ok).0.0 in
-      let size = stack_size_is law.plans w n f b ok in
-      let least = stack_least law.plans w n f b ok in
-      let monitor = (monitor_in law.plans w n f b ok).0.0 in
-      let whole = monitor_size_is law.plans w n f b ok in (
+      let stack = (stack_in law.plans (planned_of ok)).0.0 in
+      let size = stack_size_is law.plans (planned_of ok) in
+      let least = stack_least law.plans (planned_of ok) in
+      let monitor = (monitor_in law.plans (planned_of ok)).0.0 in
+      let whole = monitor_size_is law.plans (planned_of ok) in (
         ⊎_elim (λ le. inl (omega (arith, le, stack))) (λ le. inr (omega (arith, le, stack)))
             (apart_from (b.ram_base + c.at) c.width l.stack.base l.stack.size i.some (omega (arith, size, least))
             (λ z s t u v. off_stack law w n f b ok x z m (record { low = omega (arith, low, s); high = omega (arith, high, t) }) u v)),

@@ -8,19 +8,20 @@ use Rattle.monitor_model.specs.Checks.{header_fails}
 use Rattle.image_model.specs.LinkedImage.{linked}
 use Rattle.image_promises.specs.Planned.{planned_image}
 use Rattle.plan.specs.PlannedFirmwares.{IsPlanned, plan}
+use Rattle.image_promises.proofs.PlannedPremises.{planned_of}
 use Rattle.image_promises.proofs.Passing.{and_yes, ne_yes, le_yes, apart_yes, must_yes}
 use Rattle.image_promises.proofs.Facts.{PlanLaws, length_is, flash_least, stack_least, stack_size_is, monitor_in, stack_apart}
 
 pub header_passes : PlanLaws → (w : PlainFirmware) (n : Needs) (f : Final) (b : Board) → IsPlanned w n f b → header_fails (planned_image w n f b) ≡ None
 unfolding linked
 header_passes law w n f b ok =
-    let size = length_is law w n f b ok in
-    let least = flash_least law w n f b ok in
-    let stack = stack_least law w n f b ok in
-    let is = stack_size_is law w n f b ok in
-    let from = (monitor_in law w n f b ok).0.0 in
+    let size = length_is law (planned_of ok) in
+    let least = flash_least law (planned_of ok) in
+    let stack = stack_least law (planned_of ok) in
+    let is = stack_size_is law (planned_of ok) in
+    let from = (monitor_in law (planned_of ok)).0.0 in
     let low = ok.board.ram_lowest in
     must_yes _ b.flash_base
     (and_yes (ne_yes {a = (plan w n f b).monitor.base} {b = 0} (λ e. absurd (omega (arith, e, from, low))))
     (and_yes (ne_yes {a = (plan w n f b).stack.size} {b = 0} (λ e. absurd (omega (arith, e, is, stack))))
-    (and_yes (apart_yes _ _ _ _ (stack_apart law w n f b ok)) (le_yes (omega (arith, size, least))))))
+    (and_yes (apart_yes _ _ _ _ (stack_apart law (planned_of ok))) (le_yes (omega (arith, size, least))))))

@@ -32,6 +32,7 @@ use Rattle.image_model.specs.LinkedTables.{init_records, words_begin, tables_of}
 use Rattle.image_model.specs.LinkedImage.{linked}
 use Rattle.image_promises.specs.Planned.{planned_tables, planned_image}
 use Rattle.plan.specs.PlannedFirmwares.{IsPlanned, planned_sizes, plan}
+use Rattle.image_promises.proofs.PlannedPremises.{planned_of}
 use Rattle.image_promises.proofs.Facts.{stack_size_is, stack_least, monitor_size_is}
 use Rattle.plan_model.proofs.Powers.{small_block}
 use Rattle.image_promises.proofs.OpenBytes.{words_held}
@@ -116,8 +117,8 @@ module _ (law : ReadLaws) (typing : TypedOverNumbers) (laid : GlobalsAreLaid) (w
   off_stack : (u : RamUse) → IsUse f u → AreApart (base u) (4 * words u) l.stack.base l.stack.size
   off_stack u h =
       let e = held u h in
-      let z = stack_size_is law.plans w n f b ok in
-      let least = stack_least law.plans w n f b ok in
+      let z = stack_size_is law.plans (planned_of ok) in
+      let least = stack_least law.plans (planned_of ok) in
       shrink (base u) (4 * words u) (room u) l.stack.base l.stack.size e.0
       (apart_from (base u) (room u) l.stack.base l.stack.size e.1 (omega (arith, z, least))
       (λ x a c d g. law.plans.apart p f s b u ForStack x (no_stack u h) (holds_it u h x a c) (d, g)))
@@ -125,7 +126,7 @@ module _ (law : ReadLaws) (typing : TypedOverNumbers) (laid : GlobalsAreLaid) (w
   off_monitor : (u : RamUse) → IsUse f u → AreApart (base u) (4 * words u) l.monitor.base 1024
   off_monitor u h =
       let e = held u h in
-      let z = monitor_size_is law.plans w n f b ok in
+      let z = monitor_size_is law.plans (planned_of ok) in
       shrink (base u) (4 * words u) (room u) l.monitor.base 1024 e.0
       (apart_from (base u) (room u) l.monitor.base 1024 e.1 (lit< tt)
       (λ x a c d g. law.plans.apart p f s b u ForMonitor x (no_monitor u h) (holds_it u h x a c) (d, omega (arith, g, z))))

@@ -23,6 +23,7 @@ use Rattle.image_model.specs.FirstWords.{first_bytes, first_words}
 use Rattle.image_model.specs.LinkedTables.{Filled, object_places, init_records, words_begin, filled, tables_of}
 use Rattle.image_promises.specs.Planned.{planned_tables}
 use Rattle.plan.specs.PlannedFirmwares.{IsPlanned, plan}
+use Rattle.image_promises.proofs.PlannedPremises.{planned_of}
 use Rattle.image_promises.proofs.Facts.{laid, needed_most, tables_at_most, tables_block_is}
 use Rattle.plan_model.proofs.Powers.{small_block}
 use Rattle.image_promises.proofs.Ranges.{IsUse, uses, uses_are, filled_for, filled_is, globals_for, block_in, small}
@@ -77,10 +78,10 @@ module _ (law : ReadLaws) (sizes : SizesAreLimited) (w : PlainFirmware) (n : Nee
   last_words : words_begin p n f l (slots_of b) + 4 * initial_words p f ≤ 0x20000000
   unfolding table_bytes
   last_words =
-      let h = tables_at_most law.plans w n f b ok in
-      let k = (tables_block_is law.plans w n f b ok).1 in
-      let m = needed_most law.plans w n f b ok in
-      let v = (laid law.plans w n f b ok).vectors in
+      let h = tables_at_most law.plans (planned_of ok) in
+      let k = (tables_block_is law.plans (planned_of ok)).1 in
+      let m = needed_most law.plans (planned_of ok) in
+      let v = (laid law.plans (planned_of ok)).vectors in
       let top = ok.board.flash_highest in
       omega (arith, h, k, m, v, top)
 

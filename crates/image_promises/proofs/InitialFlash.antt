@@ -20,6 +20,7 @@ use Rattle.image_model.specs.LinkedTables.{Filled, filled, object_places, words_
 use Rattle.image_promises.specs.Planned.{planned_tables, planned_image}
 use Rattle.plan.specs.PlannedFirmwares.{IsPlanned, plan}
 use Rattle.image_promises.specs.Laws.{FlashReadsBack}
+use Rattle.image_promises.proofs.PlannedPremises.{planned_of}
 use Rattle.image_promises.proofs.AreaSize.{area_size}
 use Rattle.image_promises.proofs.Facts.{PlanLaws, laid}
 use Rattle.image_promises.proofs.WordsBack.{StandAt}
@@ -58,7 +59,7 @@ module _ (law : PlanLaws) (counts : CountsAgree) (back : FlashReadsBack) (w : Pl
   q = object_places p n f l
 
   pub base_is : l.tables.base ≡ b.flash_base
-  base_is = (laid law w n f b ok).vectors
+  base_is = (laid law (planned_of ok)).vectors
 
   tables_stand : StandAt p q b.flash_base (planned_image w n f b).flash (words_begin p n f l (slots_of b)) t.words
   tables_stand j lt =

@@ -34,6 +34,7 @@ use Rattle.image_model.specs.LinkedTables.{comp_record, tables_of}
 use Rattle.image_model.specs.LinkedImage.{linked}
 use Rattle.image_promises.specs.Planned.{planned_tables, planned_image}
 use Rattle.plan.specs.PlannedFirmwares.{IsPlanned, planned_sizes, plan}
+use Rattle.image_promises.proofs.PlannedPremises.{planned_of}
 use Rattle.image_promises.proofs.Facts.{PlanLaws, laid, length_is, needed_most, code_blocks_count, code_block_is, code_at_most}
 use Rattle.image_promises.proofs.FlashParts.{code_count, code_size_is, code_ends}
 use Rattle.image_promises.proofs.Passing.{and_yes, lt_yes, eq_yes, inside_yes, each_yes}
@@ -112,21 +113,21 @@ module _ (law : PlanLaws) (apart : WindowsLieApart) (w : PlainFirmware) (n : Nee
   -- the code of a compartment
   code_passes : (c : ℕ) → c < f.groups.count → is_code i (code_region l c) ≡ true
   code_passes c lt =
-      let counted = code_blocks_count law w n f b is in
+      let counted = code_blocks_count law (planned_of is) in
       let there : c < length s.code = omega (arith, lt, counted) in
       let count = code_count p f s b in
       let spot : Spot = compartment_spot l c in
       let size : spot.size ≡ block (get_or s.code c 0) = code_size_is p f s b c there in
-      let most = code_at_most law w n f b is c there in
-      let needed = needed_most law w n f b is in
+      let most = code_at_most law (planned_of is) c there in
+      let needed = needed_most law (planned_of is) in
       let power : IsPowerBetween 5 31 spot.size =
-      subst (IsPowerBetween 5 31) (sym size) (below_top (block (get_or s.code c 0)) (code_block_is law w n f b is c there).0 (omega (arith, most, needed))) in
-      let flash = laid law w n f b is in
+      subst (IsPowerBetween 5 31) (sym size) (below_top (block (get_or s.code c 0)) (code_block_is law (planned_of is) c there).0 (omega (arith, most, needed))) in
+      let flash = laid law (planned_of is) in
       let listed : c < length l.code = omega (arith, there, count) in
       let low = (flash.inside c listed).0 in
       let high = code_ends p f s b c there in
       let first = flash_first in
-      let long = length_is law w n f b is in
+      let long = length_is law (planned_of is) in
       let made = is_made 2 spot.base spot.size 0 Code (lit< tt) power (flash.aligned c listed) (lit< tt) in
       and_yes made.has
       (ap₂ (λ x y. is_inside x y i.flash_base (length i.flash)) made.base_is made.size_is

@@ -14,6 +14,7 @@ use Rattle.plan_model.specs.declared.plan.Plan.{Plan}
 use Rattle.image_model.specs.LinkedImage.{linked}
 use Rattle.image_promises.specs.Planned.{planned_image}
 use Rattle.plan.specs.PlannedFirmwares.{IsPlanned, plan, planned_sizes}
+use Rattle.image_promises.proofs.PlannedPremises.{planned_of}
 use Rattle.image_promises.proofs.Facts.{PlanLaws, length_is, needed_most, flash_least, stack_in, stack_size_is, monitor_in, monitor_size_is}
 use Rattle.image_promises.specs.Parts.{MemoryIsLaid}
 use Rattle.image_promises.specs.Regions.{ImagesObeyRules, MemoryObeysRules}
@@ -27,8 +28,8 @@ module _ (law : PlanLaws) (w : PlainFirmware) (n : Needs) (f : Final) (b : Board
   has_monitor : IsMonitor (planned_image w n f b)
   unfolding linked
   has_monitor =
-      let size = monitor_size_is law w n f b is in
-      let m = monitor_in law w n f b is in
+      let size = monitor_size_is law (planned_of is) in
+      let m = monitor_in law (planned_of is) in
       let low = m.0.0 in
       let high = m.0.1 in
       inr (subst (λ z. l.monitor.base % z ≡ 0) size m.1, (low, omega (arith, high, size)))
@@ -36,11 +37,11 @@ module _ (law : PlanLaws) (w : PlainFirmware) (n : Needs) (f : Final) (b : Board
   has_stack : IsStack (planned_image w n f b)
   unfolding linked
   has_stack =
-      let s = stack_in law w n f b is in
-      record { size = subst (IsPowerBetween 9 16) (sym (stack_size_is law w n f b is)) is.board.stack; aligned = s.1; place = s.0 }
+      let s = stack_in law (planned_of is) in
+      record { size = subst (IsPowerBetween 9 16) (sym (stack_size_is law (planned_of is))) is.board.stack; aligned = s.1; place = s.0 }
 
   flash_words : length (planned_image w n f b).flash % 4 ≡ 0
-  flash_words = ap (λ x. x % 4) (length_is law w n f b is) ∙ flash_fours (planned_sizes w n f b)
+  flash_words = ap (λ x. x % 4) (length_is law (planned_of is)) ∙ flash_fours (planned_sizes w n f b)
 
   few_windows : length (windows_of w) ≤ 64
   few_windows = let few = few_periphs w is.within in let size = length-map w.periphs window_of in omega (arith, few, size)
@@ -48,9 +49,9 @@ module _ (law : PlanLaws) (w : PlainFirmware) (n : Needs) (f : Final) (b : Board
   pub obeys : WindowsLieApart → ObeysRules (planned_image w n f b)
   unfolding linked
   obeys apart =
-      let size = length_is law w n f b is in
-      let least = flash_least law w n f b is in
-      let most = needed_most law w n f b is in
+      let size = length_is law (planned_of is) in
+      let least = flash_least law (planned_of is) in
+      let most = needed_most law (planned_of is) in
       record {
         flash_aligned = is.board.flash_aligned;
         flash_highest = is.board.flash_highest;

@@ -29,6 +29,7 @@ use Rattle.monitor_model.specs.Area.{site_words, target_words}
 use Rattle.image_model.specs.LinkedTables.{planned_places, return_address, site_records, target_record, target_records, tables_of}
 use Rattle.image_promises.specs.Planned.{planned_tables}
 use Rattle.plan.specs.PlannedFirmwares.{IsPlanned, plan, planned_sizes}
+use Rattle.image_promises.proofs.PlannedPremises.{planned_of}
 use Rattle.image_promises.proofs.Facts.{laid, code_blocks_count, needed_most, tables_at_most, tables_block_is}
 use Rattle.image_promises.proofs.FlashParts.{code_count}
 use Rattle.image_promises.proofs.ReadBack.{ReadLaws, code_length, code_fits}
@@ -55,9 +56,9 @@ module _ (law : ReadLaws) (typing : TypedOverNumbers) (w : PlainFirmware) (n : N
   -- all tables together have at most a MiB
   pub tables_most : table_bytes p n f (slots_of b) ≤ 0x100000
   tables_most =
-      let h = tables_at_most law.plans w n f b ok in
-      let k = (tables_block_is law.plans w n f b ok).1 in
-      let m = needed_most law.plans w n f b ok in
+      let h = tables_at_most law.plans (planned_of ok) in
+      let k = (tables_block_is law.plans (planned_of ok)).1 in
+      let m = needed_most law.plans (planned_of ok) in
       omega (arith, h, k, m)
 
   -- ---- code lies in flash
@@ -67,12 +68,12 @@ module _ (law : ReadLaws) (typing : TypedOverNumbers) (w : PlainFirmware) (n : N
 
   code_ends : (c : ℕ) → c < f.groups.count → base_of c + compartment_size p (code_groups p n f.groups) c ≤ 0x20000000
   code_ends c lt =
-      let m = code_blocks_count law.plans w n f b ok in
+      let m = code_blocks_count law.plans (planned_of ok) in
       let e = code_count p f s b in
       let base : base_of c ≡ (compartment_spot l c).base = get_or-map (λ (x : Spot). x.base) l.code c no_spot 0 (omega (arith, lt, m, e)) in
       let long = code_length law w n f b ok c lt in
       let room = code_fits law w n f b ok c lt in
-      let ends = ((laid law.plans w n f b ok).inside c (omega (arith, lt, m, e))).1 in
+      let ends = ((laid law.plans (planned_of ok)).inside c (omega (arith, lt, m, e))).1 in
       let top = ok.board.flash_highest in
       let size = ok.board.flash_size.most in
       omega (arith, base, long, room, ends, top, size)

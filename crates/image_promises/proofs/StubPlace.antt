@@ -14,6 +14,7 @@ use Rattle.monitor_program.specs.Svc.{svc}
 use Rattle.image_model.specs.LinkedTables.{tables_of}
 use Rattle.image_promises.specs.Planned.{planned_tables}
 use Rattle.plan.specs.PlannedFirmwares.{IsPlanned}
+use Rattle.image_promises.proofs.PlannedPremises.{planned_of}
 use Rattle.image_promises.proofs.Facts.{PlanLaws, laid}
 use Rattle.image_promises.specs.CodeInFlash.{StubIsPlaced}
 use Rattle.monitor_steps.proofs.CodeParts.{length_even}
@@ -27,7 +28,7 @@ offset_even c =
 
 tables_first : (law : PlanLaws) (w : PlainFirmware) (n : Needs) (f : Final) (b : Board) (ok : IsPlanned w n f b) → (planned_tables w n f b).base ≡ b.flash_base
 unfolding tables_of
-tables_first law w n f b ok = (laid law w n f b ok).vectors
+tables_first law w n f b ok = (laid law (planned_of ok)).vectors
 
 pub stub_is_placed : PlanLaws → CodeFits → StubIsThere → StubIsPlaced
 stub_is_placed law fits there w n f b ok =

@@ -37,6 +37,7 @@ use Rattle.image_model.specs.Laws.{CountsAgree}
 use Rattle.image_model.specs.LinkedTables.{planned_places, return_address, site_records, target_record, tables_of}
 use Rattle.image_promises.specs.Planned.{planned_tables}
 use Rattle.plan.specs.PlannedFirmwares.{IsPlanned, plan, planned_sizes}
+use Rattle.image_promises.proofs.PlannedPremises.{planned_of}
 use Rattle.image_promises.proofs.Facts.{PlanLaws, laid, code_block_is, code_blocks_count}
 use Rattle.image_promises.proofs.FlashParts.{code_count, code_size_is}
 use Rattle.image_promises.proofs.Passing.{and_yes, lt_yes, eq_yes}
@@ -83,12 +84,12 @@ module _ (law : TargetLaws) (w : PlainFirmware) (n : Needs) (f : Final) (b : Boa
       let c = compartment_of f.groups h in
       let below = placed.each h lt in
       let all = placed.count in
-      let counted = code_blocks_count law.plans w n f b is in
+      let counted = code_blocks_count law.plans (planned_of is) in
       let count = code_count p f s b in
       let there : c < length s.code = omega (arith, below, counted) in
       let base : get_or (map (λ (x : Spot). x.base) l.code) c 0 ≡ (compartment_spot l c).base = get_or-map (λ (x : Spot). x.base) l.code c no_spot 0 (omega (arith, there, count)) in
       let size : (compartment_spot l c).size ≡ block (get_or s.code c 0) = code_size_is p f s b c there in
-      let room = (code_block_is law.plans w n f b is c there).1 in
+      let room = (code_block_is law.plans (planned_of is) c there).1 in
       let code : get_or s.code c 0 ≡ compartment_size p (code_groups p n f.groups) c =
       get_or-map-range_with_len (compartment_size p (code_groups p n f.groups)) 0 f.groups.count c c 0 below (let e : 0 + c ≡ c = omega arith in e) in
       let inside = code_inside p (code_groups p n f.groups) h c (omega (arith, all, lt)) refl in
@@ -105,12 +106,12 @@ module _ (law : TargetLaws) (w : PlainFirmware) (n : Needs) (f : Final) (b : Boa
           let a1 = a.1 in
           let d0 = d.0 in
           let d1 = d.1 in
-          let counted = code_blocks_count law.plans w n f b is in
+          let counted = code_blocks_count law.plans (planned_of is) in
           let count = code_count p f s b in
           let bg = placed.each g lg in
           let bh = placed.each h lh in
           ⊎_elim (λ q. absurd (omega (arith, a0, a1, d0, d1, e, q))) (λ q. absurd (omega (arith, a0, a1, d0, d1, e, q)))
-          ((laid law.plans w n f b is).apart (compartment_of f.groups g) (compartment_of f.groups h) (omega (arith, bg, counted, count)) (omega (arith, bh, counted, count)) ne)
+          ((laid law.plans (planned_of is)).apart (compartment_of f.groups g) (compartment_of f.groups h) (omega (arith, bg, counted, count)) (omega (arith, bh, counted, count)) ne)
 
       by : (x : Bool) → nat_eq (compartment_of f.groups g) (compartment_of f.groups h) ≡ x → compartment_of f.groups g ≡ compartment_of f.groups h
       by true q = eqb-true _ _ q

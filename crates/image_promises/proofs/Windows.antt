@@ -17,6 +17,7 @@ use Rattle.plan_model.specs.declared.plan.Board.{Board}
 use Rattle.image_model.specs.LinkedImage.{linked}
 use Rattle.image_promises.specs.Planned.{planned_image}
 use Rattle.plan.specs.PlannedFirmwares.{IsPlanned}
+use Rattle.image_promises.proofs.PlannedPremises.{planned_of}
 use Rattle.image_promises.proofs.Facts.{PlanLaws, length_is, needed_most}
 use Rattle.image_promises.specs.Parts.{WindowsArePromised}
 use Rattle.image_promises.proofs.WindowsOpen.{FitsSlots, windows_are_open}
@@ -68,8 +69,8 @@ module _ (law : PlanLaws) (apart : WindowsLieApart) (w : PlainFirmware) (n : Nee
       let high = is.board.ram_highest in
       let most = is.board.ram_size.most in
       let top = is.board.flash_highest in
-      let size = length_is law w n f b is in
-      let needed = needed_most law w n f b is in
+      let size = length_is law (planned_of is) in
+      let needed = needed_most law (planned_of is) in
       let image = planned_image w n f b in
       let count = ap length periphs_are in
       let same = length-map w.periphs numbers.window_of in

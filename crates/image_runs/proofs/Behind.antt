@@ -17,6 +17,7 @@ use Rattle.monitor_program.specs.Page.{filled_up}
 use Rattle.image_model.specs.LinkedTables.{tables_of}
 use Rattle.image_promises.specs.Planned.{planned_tables, planned_image}
 use Rattle.plan.specs.PlannedFirmwares.{IsPlanned, planned_sizes, plan}
+use Rattle.image_promises.proofs.PlannedPremises.{planned_of}
 use Rattle.image_promises.proofs.FlashBack.{off_all}
 use Rattle.image_promises.proofs.FlashParts.{code_count, code_size_is, tables_size_is}
 use Rattle.image_promises.proofs.Facts.{laid, tables_block_is, code_blocks_count, code_block_is}
@@ -49,31 +50,31 @@ module _ (law : ReadLaws) (typing : TypedOverNumbers) (w : PlainFirmware) (n : N
   ends : area_end t ≤ l.tables.base + l.tables.size
   ends =
       let e = end_is law.counts p n f l b some in
-      let h = (tables_block_is law.plans w n f b ok).1 in
+      let h = (tables_block_is law.plans (planned_of ok)).1 in
       let z = tables_size_is p f s b in
       let d = base_is in
       omega (arith, e, h, z, d)
 
   behind : (c : ℕ) → c < f.groups.count → area_end t ≤ (compartment_spot l c).base
   behind c lt =
-      let x = laid law.plans w n f b ok in
+      let x = laid law.plans (planned_of ok) in
       let e = ends in
       ⊎_elim (λ a. omega (arith, e, a)) (λ a. absurd (empty a)) (x.tables_apart c there)
     where
       m : length s.code ≡ f.groups.count
-      m = code_blocks_count law.plans w n f b ok
+      m = code_blocks_count law.plans (planned_of ok)
 
       there : c < length l.code
       there = let h = m in let k = code_count p f s b in omega (arith, lt, h, k)
 
       empty : (compartment_spot l c).base + (compartment_spot l c).size ≤ l.tables.base → ⊥
       empty a =
-          let x = laid law.plans w n f b ok in
+          let x = laid law.plans (planned_of ok) in
           let first = x.vectors in
           let from = (x.inside c there).0 in
           let h = m in
           let z = code_size_is p f s b c (omega (arith, lt, h)) in
-          let q = (code_block_is law.plans w n f b ok c (omega (arith, lt, h))).0 in
+          let q = (code_block_is law.plans (planned_of ok) c (omega (arith, lt, h))).0 in
           let r = q.3 in
           let k = pow_pos q.0 in
           omega (arith, a, first, from, z, r, k)
@@ -85,7 +86,7 @@ module _ (law : ReadLaws) (typing : TypedOverNumbers) (w : PlainFirmware) (n : N
       let flash : List ℕ = (planned_image w n f b).flash in
       let e = behind c lt in
       let d = base_is in
-      let first = (laid law.plans w n f b ok).vectors in
+      let first = (laid law.plans (planned_of ok)).vectors in
       record { as_long = length-write_all 1 at bytes flash; same = λ k lt. off_all at bytes flash k (inl (omega (arith, e, d, first, lt))) }
 
 pub code_keeps_tables : ReadLaws → TypedOverNumbers → CodeKeepsTables

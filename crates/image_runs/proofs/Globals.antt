@@ -20,6 +20,7 @@ use Rattle.monitor_model.specs.Confined.{later}
 use Rattle.image_model.specs.LinkedTables.{tables_of}
 use Rattle.image_promises.specs.Planned.{planned_tables}
 use Rattle.plan.specs.PlannedFirmwares.{IsPlanned}
+use Rattle.image_promises.proofs.PlannedPremises.{planned_of}
 use Rattle.image_promises.proofs.Facts.{monitor_size_is}
 use Rattle.image_promises.specs.Permissions.{IsByteOf, IsOnPeripherals, IsPermitted, OnPeripherals, InData, SlotsArePermitted}
 use Rattle.image_promises.proofs.GlobalPlaces.{GlobalLaws, in_ram, off_stack, off_monitor}
@@ -58,7 +59,7 @@ module _ (law : GlobalLaws) (w : PlainFirmware) (n : Needs) (f : Final) (b : Boa
 
     pub off_block : InBlock t a → ⊥
     unfolding tables_of
-    off_block o = off_monitor law w n f b ok x a lt (record { low = byte.0; high = byte.1 }) o.0 (let z = monitor_size_is law.plans w n f b ok in let hi = o.1 in omega (arith, z, hi))
+    off_block o = off_monitor law w n f b ok x a lt (record { low = byte.0; high = byte.1 }) o.0 (let z = monitor_size_is law.plans (planned_of ok) in let hi = o.1 in omega (arith, z, hi))
 
   -- ---- a run of an image with the board's RAM
 

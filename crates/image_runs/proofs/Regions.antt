@@ -23,6 +23,7 @@ use Rattle.monitor_model.specs.Confined.{later}
 use Rattle.image_model.specs.LinkedTables.{tables_of}
 use Rattle.image_promises.specs.Planned.{planned_tables}
 use Rattle.plan.specs.PlannedFirmwares.{IsPlanned, plan, planned_sizes}
+use Rattle.image_promises.proofs.PlannedPremises.{planned_of}
 use Rattle.image_promises.proofs.Facts.{PlanLaws, monitor_size_is}
 use Rattle.image_promises.proofs.Ranges.{IsUse, block_in, block_size_is}
 use Rattle.image_promises.proofs.GlobalPlaces.{same_or_other}
@@ -64,7 +65,7 @@ module _ (law : PlanLaws) (w : PlainFirmware) (n : Needs) (f : Final) (b : Board
 
     off_block : InBlock t a → ⊥
     unfolding tables_of
-    off_block o = law.apart (resolve w) f (planned_sizes w n f b) b (ForRegion r) ForMonitor a (λ e. cc) held (o.0, let z = monitor_size_is law w n f b ok in let hi = o.1 in omega (arith, z, hi))
+    off_block o = law.apart (resolve w) f (planned_sizes w n f b) b (ForRegion r) ForMonitor a (λ e. cc) held (o.0, let z = monitor_size_is law (planned_of ok) in let hi = o.1 in omega (arith, z, hi))
 
     low : a < 0x40000000
     low = let x = in_ram.1 in let y = ok.board.ram_highest in let z = ok.board.ram_size.most in omega (arith, x, y, z)
