@@ -14,6 +14,7 @@ use Rattle.image_model.specs.LinkedTables.{tables_of}
 use Rattle.image_promises.specs.Planned.{planned_tables, planned_image}
 use Rattle.plan.specs.PlannedFirmwares.{IsPlanned, plan}
 use Rattle.plan_model.proofs.KeptLimits.{few}
+use Rattle.image_promises.proofs.PlannedPremises.{planned_of}
 use Rattle.image_promises.proofs.ReadBack.{ReadLaws}
 use Rattle.image_promises.specs.Parts.{CodeIsPlaced}
 use Rattle.image_promises.specs.CodeInFlash.{PageIsExact, MainIsMoved}
@@ -35,14 +36,14 @@ module _ (law : ReadLaws) (placed : CodeIsPlaced) (typing : TypedOverNumbers) (w
   pub main_below : (planned_tables w n f b).main < 2 ^ 32
   main_below =
       let e = main_is in
-      let to = (entry_in law placed monitor_code w n f b ok (resolve w).main there).to in
+      let to = (entry_in law placed monitor_code (planned_of ok) (resolve w).main there).to in
       let top = ok.board.flash_highest in
       omega (arith, e, to, top)
 
   pub compartment_below : (planned_tables w n f b).main_comp < 2 ^ 32
   compartment_below =
       let e = compartment_is in
-      let g : compartment_of f.groups (resolve w).main < f.groups.count = (is law placed monitor_code w n f b ok).each (resolve w).main there in
+      let g : compartment_of f.groups (resolve w).main < f.groups.count = (is law placed monitor_code (planned_of ok)).each (resolve w).main there in
       let most = (few n f.groups ok.limits).compartments in
       omega (arith, e, g, most)
 

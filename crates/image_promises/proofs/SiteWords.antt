@@ -71,8 +71,8 @@ module _ (law : ReadLaws) (typing : TypedOverNumbers) (w : PlainFirmware) (n : N
       let m = code_blocks_count law.plans (planned_of ok) in
       let e = code_count p f s b in
       let base : base_of c ≡ (compartment_spot l c).base = get_or-map (λ (x : Spot). x.base) l.code c no_spot 0 (omega (arith, lt, m, e)) in
-      let long = code_length law w n f b ok c lt in
-      let room = code_fits law w n f b ok c lt in
+      let long = code_length law (planned_of ok) c lt in
+      let room = code_fits law (planned_of ok) c lt in
       let ends = ((laid law.plans (planned_of ok)).inside c (omega (arith, lt, m, e))).1 in
       let top = ok.board.flash_highest in
       let size = ok.board.flash_size.most in
