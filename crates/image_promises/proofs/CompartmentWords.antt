@@ -87,7 +87,7 @@ module _ (law : PlanLaws) (apart : WindowsLieApart) (w : PlainFirmware) (n : Nee
 
   region_low : (c r : ℕ) → r < length f.regions → IsLow (data_slot p f l c r)
   region_low c r lt =
-      let ends = (block_in law w n f b ok (ForRegion r) (record { of_globals = tt; there = lt })).0.1 in
+      let ends = (block_in law (planned_of ok) (ForRegion r) (record { of_globals = tt; there = lt })).0.1 in
       let top = ok.board.ram_highest in
       let size = ok.board.ram_size.most in
       record { base = omega (arith, ends, top, size); byte = out_is_byte (region_spot l r).size (region_bytes p (region_at f.regions r).globals) }

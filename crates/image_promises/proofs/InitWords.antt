@@ -66,8 +66,8 @@ module _ (law : ReadLaws) (sizes : SizesAreLimited) (w : PlainFirmware) (n : Nee
 
   use_low : (u : RamUse) → IsUse f u → EndsLow p (filled_for f l u)
   use_low u h =
-      let ends = (block_in law.plans w n f b ok u h).0.1 in
-      let room = (small_block (region_bytes p (globals_for f u)) (small law.plans w n f b ok u h)).1 in
+      let ends = (block_in law.plans (planned_of ok) u h).0.1 in
+      let room = (small_block (region_bytes p (globals_for f u)) (small law.plans (planned_of ok) u h)).1 in
       let top = ok.board.ram_highest in
       let size = ok.board.ram_size.most in
       omega (arith, ends, room, top, size)

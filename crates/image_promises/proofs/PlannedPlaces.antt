@@ -83,7 +83,7 @@ module _ (law : ReadLaws) (placed : CodeIsPlaced) (fits : TypedFunctionsFit) (ag
 
   pub places_fit : (h : ℕ) → h < length p.funcs → PlacesFit b.flash_base (b.flash_base + 0x100000) (length p.funcs) (places_of p groups places h)
   places_fit h there = record {
-    globals = λ x. mapped_below (2 ^ 32) (global_address p f l) (length p.globals) x (omega arith) (λ m. global_below law.plans w n f b ok x);
+    globals = λ x. mapped_below (2 ^ 32) (global_address p f l) (length p.globals) x (omega arith) (λ m. global_below law.plans planned x);
     windows = window_below;
     from = λ g m. let e = entry_is g h m in let r = (entry_in law placed monitor_code planned g m).from in omega (arith, e, r);
     to = λ g m. let e = entry_is g h m in let r = (entry_in law placed monitor_code planned g m).to in omega (arith, e, r);

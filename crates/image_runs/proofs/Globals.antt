@@ -49,24 +49,24 @@ module _ (law : GlobalLaws) (w : PlainFirmware) (n : Needs) (f : Final) (b : Boa
     where
       by : IsPermitted w n f b (may_write (resolve w) n f c) c a → may_write (resolve w) n f c (Global x) ≡ true
       by (OnPeripherals o) =
-          absurd (let r = (in_ram law w n f b ok x lt).1 in let hi = byte.1 in no_range (may_write (resolve w) n f c) a (omega (arith, r, hi)) _ o)
+          absurd (let r = (in_ram law (planned_of ok) x lt).1 in let hi = byte.1 in no_range (may_write (resolve w) n f c) a (omega (arith, r, hi)) _ o)
       by (InData d) = d.permitted x lt byte
 
   module _ (x a : ℕ) (lt : x < length (resolve w).globals) (byte : IsByteOf w n f b x a) where
     pub off : OnStack t a → ⊥
     unfolding tables_of
-    off on = off_stack law w n f b ok x a lt (record { low = byte.0; high = byte.1 }) on.0 on.1
+    off on = off_stack law (planned_of ok) x a lt (record { low = byte.0; high = byte.1 }) on.0 on.1
 
     pub off_block : InBlock t a → ⊥
     unfolding tables_of
-    off_block o = off_monitor law w n f b ok x a lt (record { low = byte.0; high = byte.1 }) o.0 (let z = monitor_size_is law.plans (planned_of ok) in let hi = o.1 in omega (arith, z, hi))
+    off_block o = off_monitor law (planned_of ok) x a lt (record { low = byte.0; high = byte.1 }) o.0 (let z = monitor_size_is law.plans (planned_of ok) in let hi = o.1 in omega (arith, z, hi))
 
   -- ---- a run of an image with the board's RAM
 
   module _ (i : Image) (base : i.ram_base ≡ b.ram_base) (first : State) (keeps : KeepsMemory i t first) where
     pub outside : (x a : ℕ) → x < length (resolve w).globals → IsByteOf w n f b x a → IsOutside i t a
     outside x a lt byte = record {
-      from_base = let r = (in_ram law w n f b ok x lt).0 in let lo = byte.0 in omega (arith, r, lo, base);
+      from_base = let r = (in_ram law (planned_of ok) x lt).0 in let lo = byte.0 in omega (arith, r, lo, base);
       off_block = off_block x a lt byte;
     }
 

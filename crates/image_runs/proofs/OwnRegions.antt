@@ -33,6 +33,7 @@ use Rattle.image_model.specs.LinkedTables.{tables_of, comp_record}
 use Rattle.image_promises.specs.Planned.{planned_tables}
 use Rattle.plan.specs.PlannedFirmwares.{IsPlanned, plan}
 use Rattle.base_laws.proofs.Lists.{each_both}
+use Rattle.image_promises.proofs.PlannedPremises.{planned_of}
 use Rattle.image_promises.proofs.Lists.{each_passing, each_map, below_all}
 use Rattle.image_promises.proofs.Bearing.{use_region}
 use Rattle.image_promises.proofs.CoverParts.{IsPart}
@@ -69,7 +70,7 @@ module _ (law : OwnSlotLaws) (w : PlainFirmware) (n : Needs) (f : Final) (b : Bo
       region = r;
       there = lt;
       mine = is_mine r m user q;
-      held = (slot_holds law.globals law.held law.opened law.given w n f b ok c r a m lt number).0 (holds_it (use_region m (data_slot p f l c r)) q);
+      held = (slot_holds law.globals law.held law.opened law.given (planned_of ok) c r a m lt number).0 (holds_it (use_region m (data_slot p f l c r)) q);
     }
 
     used : Each (λ r. (r < length f.regions) × (is_user c (region_at f.regions r) ≡ true)) (regions_used f.regions c)

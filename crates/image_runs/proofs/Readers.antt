@@ -27,6 +27,7 @@ use Rattle.monitor_model.specs.Handlers.{LoadFor, ForFlash, ForBlock, ForSystem,
 use Rattle.image_promises.specs.Planned.{planned_tables}
 use Rattle.plan.specs.PlannedFirmwares.{IsPlanned}
 use Rattle.image_promises.specs.Permissions.{IsByteOf, IsPermitted, OnPeripherals, InData, SlotsArePermitted}
+use Rattle.image_promises.proofs.PlannedPremises.{planned_of}
 use Rattle.image_promises.proofs.GlobalPlaces.{GlobalLaws, in_ram}
 use Rattle.image_promises.specs.Whole.{IsForBoard}
 use Rattle.monitor_runs.specs.Acts.{Acts, MayRead, ReadsSlot, ReadsStack, ReadsFlash}
@@ -55,7 +56,7 @@ module _ (law : GlobalLaws) (w : PlainFirmware) (n : Needs) (f : Final) (b : Boa
   module _ (x a : ℕ) (lt : x < length (resolve w).globals) (byte : IsByteOf w n f b x a) where
     in_memory : (i.ram_base ≤ a) × (a < i.ram_base + i.ram_size)
     in_memory =
-        let r = in_ram law w n f b ok x lt in
+        let r = in_ram law (planned_of ok) x lt in
         let first = r.0 in
         let last = r.1 in
         let lo = byte.0 in
@@ -70,7 +71,7 @@ module _ (law : GlobalLaws) (w : PlainFirmware) (n : Needs) (f : Final) (b : Boa
       where
         by : IsPermitted w n f b (may_read (resolve w) n f c) c a → may_read (resolve w) n f c (Global x) ≡ true
         by (OnPeripherals o) =
-            absurd (let r = (in_ram law w n f b ok x lt).1 in let hi = byte.1 in no_range law w n f b ok slots (may_read (resolve w) n f c) a (omega (arith, r, hi)) _ o)
+            absurd (let r = (in_ram law (planned_of ok) x lt).1 in let hi = byte.1 in no_range law w n f b ok slots (may_read (resolve w) n f c) a (omega (arith, r, hi)) _ o)
         by (InData d) = d.permitted x lt byte
 
     off_flash : a < i.flash_base + 0x100000 → ⊥

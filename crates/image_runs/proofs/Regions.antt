@@ -50,8 +50,8 @@ module _ (law : PlanLaws) (w : PlainFirmware) (n : Needs) (f : Final) (b : Board
 
     in_ram : (b.ram_base ≤ a) × (a < b.ram_base + b.ram_size)
     in_ram =
-        let z = (block_in law w n f b ok (ForRegion r) of_region).0 in
-        let size = block_size_is law w n f b ok (ForRegion r) of_region in
+        let z = (block_in law (planned_of ok) (ForRegion r) of_region).0 in
+        let size = block_size_is law (planned_of ok) (ForRegion r) of_region in
         let within = open_within (region_spot l r).size (region_bytes (resolve w) (region_at f.regions r).globals) in
         let x = z.0 in
         let y = z.1 in

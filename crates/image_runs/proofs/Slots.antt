@@ -33,6 +33,7 @@ use Rattle.monitor_model.specs.Records.{compartment_at, nobody}
 use Rattle.image_model.specs.LinkedTables.{tables_of, comp_record}
 use Rattle.image_promises.specs.Planned.{planned_tables}
 use Rattle.plan.specs.PlannedFirmwares.{IsPlanned, plan}
+use Rattle.image_promises.proofs.PlannedPremises.{planned_of}
 use Rattle.image_promises.proofs.Ranges.{IsUse, block_in, block_size_is}
 use Rattle.image_promises.proofs.Lists.{each_passing, each_map, below_all}
 use Rattle.image_promises.proofs.Bearing.{use_region}
@@ -78,13 +79,13 @@ module _ (law : OwnSlotLaws) (w : PlainFirmware) (n : Needs) (f : Final) (b : Bo
     -- data lies lower
     data_serves : (r : ℕ) → (r < length f.regions) × (is_user c (region_at f.regions r) ≡ true) → Serves (data_slot p f l c r)
     data_serves r (lt, user) m number q =
-        let h : HoldsAddress p f (plan w n f b) (ForRegion r) a = (slot_holds law.globals law.held law.opened law.given w n f b ok c r a m lt number).0 q in
+        let h : HoldsAddress p f (plan w n f b) (ForRegion r) a = (slot_holds law.globals law.held law.opened law.given (planned_of ok) c r a m lt number).0 q in
         let u : IsUse f (ForRegion r) = record { of_globals = tt; there = lt } in
-        let inside = (block_in law.globals.plans w n f b ok (ForRegion r) u).0 in
+        let inside = (block_in law.globals.plans (planned_of ok) (ForRegion r) u).0 in
         let room = open_within (region_spot (plan w n f b) r).size (region_bytes p (region_at f.regions r).globals) in
         let x = h.1 in
         let y = inside.1 in
-        let has : (region_spot (plan w n f b) r).size ≡ block (region_bytes p (region_at f.regions r).globals) = block_size_is law.globals.plans w n f b ok (ForRegion r) u in
+        let has : (region_spot (plan w n f b) r).size ≡ block (region_bytes p (region_at f.regions r).globals) = block_size_is law.globals.plans (planned_of ok) (ForRegion r) u in
         let base = ok.board.ram_highest in
         let size = ok.board.ram_size.most in
         absurd (omega (arith, x, y, has, room, base, size, high))
