@@ -3,14 +3,12 @@ use Rattle.std.proofs.Common.{ℕ, ◌+◌, ◌^◌, ◌<◌, ◌≤◌, Bool, t
 use mathlib.Core.Logic.{⊎_elim}
 use Rattle.base_laws.specs.Lists.{Each}
 use Rattle.machine_protection.specs.declared.words.Rights.TheVariants.{Code}
-use Rattle.ir_model.specs.Plain.{PlainFirmware}
 use Rattle.ir_model.specs.Resolve.{resolve}
 use Rattle.ir_model.specs.Resolved.{Program}
 use Rattle.ir_model.specs.declared.object.ObjId.TheVariants.{Local}
 use Rattle.ir_laws.specs.Limits.{HasWindows, WindowsLieApart}
 use Rattle.plan_model.specs.declared.needs.Needs.{Needs}
 use Rattle.plan_model.specs.declared.graph.Final.{Final}
-use Rattle.plan_model.specs.declared.plan.Board.{Board}
 use Rattle.plan_model.specs.declared.plan.Plan.{Plan}
 use Rattle.plan_model.specs.declared.plan.Sizes.{Sizes}
 use Rattle.plan_model.specs.Boards.{slots_of}
@@ -26,8 +24,8 @@ use Rattle.plan_model.specs.Slots.{data_slot, cover_slot, slot_uses, slot_region
 use Rattle.monitor_model.specs.Area.{region_words, compartment_words}
 use Rattle.image_model.specs.LinkedTables.{comp_record, tables_of}
 use Rattle.image_promises.specs.Planned.{planned_tables}
-use Rattle.plan.specs.PlannedFirmwares.{IsPlanned, plan, planned_sizes}
-use Rattle.image_promises.proofs.PlannedPremises.{planned_of}
+use Rattle.plan.specs.PlannedFirmwares.{plan, planned_sizes}
+use Rattle.image_promises.proofs.PlannedPremises.{PlannedPremises}
 use Rattle.image_promises.proofs.Facts.{PlanLaws, laid, code_blocks_count}
 use Rattle.image_promises.proofs.FlashParts.{code_count}
 use Rattle.image_promises.proofs.Ranges.{block_in}
@@ -66,7 +64,9 @@ module _ (p : Program) (n : Needs) (windows : HasWindows p) where
 
 -- ---- the regions of a compartment
 
-module _ (law : PlanLaws) (apart : WindowsLieApart) (w : PlainFirmware) (n : Needs) (f : Final) (b : Board) (ok : IsPlanned w n f b) where
+module _ (law : PlanLaws) (apart : WindowsLieApart) (planned : PlannedPremises) where
+  open planned use {firmware as w, needs as n, final as f, board as b, is_planned as ok}
+
   abbrev p : Program
   p = resolve w
 
@@ -78,16 +78,16 @@ module _ (law : PlanLaws) (apart : WindowsLieApart) (w : PlainFirmware) (n : Nee
 
   code_fits : (c : ℕ) → c < f.groups.count → AreWords (region_words (code_region l c))
   code_fits c lt =
-      let m = code_blocks_count law (planned_of ok) in
+      let m = code_blocks_count law planned in
       let e = code_count p f s b in
-      let ends = ((laid law (planned_of ok)).inside c (omega (arith, lt, m, e))).1 in
+      let ends = ((laid law planned).inside c (omega (arith, lt, m, e))).1 in
       let top = ok.board.flash_highest in
       let size = ok.board.flash_size.most in
       region_fits 2 (compartment_spot l c).base (compartment_spot l c).size 0 Code (lit< tt) (omega (arith, ends, top, size)) (lit< tt)
 
   region_low : (c r : ℕ) → r < length f.regions → IsLow (data_slot p f l c r)
   region_low c r lt =
-      let ends = (block_in law (planned_of ok) (ForRegion r) (record { of_globals = tt; there = lt })).0.1 in
+      let ends = (block_in law planned (ForRegion r) (record { of_globals = tt; there = lt })).0.1 in
       let top = ok.board.ram_highest in
       let size = ok.board.ram_size.most in
       record { base = omega (arith, ends, top, size); byte = out_is_byte (region_spot l r).size (region_bytes p (region_at f.regions r).globals) }

@@ -192,7 +192,7 @@ module _ (law : ReadLaws) (typing : TypedOverNumbers) (laid : GlobalsAreLaid) (p
   pub begin_is : words_begin p n f l (slots_of b) ≡ initial_words_at t
   unfolding tables_of
   begin_is =
-      let e = end_is law.counts p n f l b (some law typing w n f b ok) in
+      let e = end_is law.counts p n f l b (some law typing planned) in
       let c = initial_words_are p n f l b in
       let m = law.counts.words p n f l b in
       omega (arith, e, c, m)
