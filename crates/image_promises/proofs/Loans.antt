@@ -7,7 +7,6 @@ use Rattle.std.proofs.lemmas.List.FromFn.{get_or-map-range_with_len}
 use Rattle.std.proofs.lemmas.List.Quantifiers.{position-Some}
 use Rattle.std.proofs.lemmas.Bool.{or_right, and_from as both, and_parts}
 use Rattle.ir_model.specs.declared.object.ObjId.TheVariants.{Local}
-use Rattle.ir_model.specs.Plain.{PlainFirmware}
 use Rattle.ir_model.specs.Resolve.{resolve}
 use Rattle.ir_model.specs.Resolved.{Program, local_at}
 use Rattle.ir_model.specs.State.{LocalObject}
@@ -34,8 +33,9 @@ use Rattle.image_model.specs.LinkedTables.{tables_of, comp_record, lend_sizes}
 use Rattle.image_model.specs.LinkedImage.{linked}
 use Rattle.refine.specs.Linked.{HasLoans}
 use Rattle.image_promises.specs.Planned.{planned_tables, planned_image}
-use Rattle.plan.specs.PlannedFirmwares.{IsPlanned, plan}
+use Rattle.plan.specs.PlannedFirmwares.{plan}
 use Rattle.image_promises.specs.Parts.{linked_build, LoansAreKept, KindsAgree}
+use Rattle.image_promises.proofs.PlannedPremises.{PlannedPremises, planned_of}
 use Rattle.image_promises.proofs.Bits.{mask_bit}
 use Rattle.image_promises.proofs.Kept.{kept_final}
 use Rattle.image_promises.proofs.Reach.{one_of, has_listed}
@@ -109,7 +109,9 @@ at_local does n g h l k is P same t =
     let x : ℕ × ℕ = get_or n.lendable k (0, 0) in
     same x ∙ (ap (λ a. P a x.1) is.func ∙ (ap (λ a. P h a) is.local ∙ t))
 
-module _ (code : MonitorCode) (w : PlainFirmware) (n : Needs) (f : Final) (b : Board) (is : IsPlanned w n f b) where
+module _ (code : MonitorCode) (planned : PlannedPremises) where
+  open planned use {firmware as w, needs as n, final as f, board as b, is_planned as is}
+
   number_small : (h l k : ℕ) → IsLent n f.groups h l k → k < 32
   number_small h l k i =
       let few = (few_limits n f.groups is.limits).lent in
@@ -173,7 +175,7 @@ module _ (code : MonitorCode) (w : PlainFirmware) (n : Needs) (f : Final) (b : B
   }
 
 pub loans_are_kept : LoansAreKept
-loans_are_kept code w n f b is = has_loans code w n f b is
+loans_are_kept code w n f b is = has_loans code (planned_of is)
 
 pub kinds_agree : KindsAgree
 unfolding linked

@@ -10,16 +10,13 @@ use Rattle.std.proofs.lemmas.List.Quantifiers.{position-Some}
 use Rattle.std.proofs.lemmas.List.Sums.{sum_by-cons}
 use Rattle.base_laws.proofs.Lists.{any_kept}
 use Rattle.ir_model.specs.declared.object.ObjId.TheVariants.{Global, Periph, Local}
-use Rattle.ir_model.specs.Plain.{PlainFirmware}
 use Rattle.ir_model.specs.Resolve.{resolve}
 use Rattle.ir_model.specs.Resolved.{Program, window_at}
 use Rattle.ir_laws.specs.Limits.{WindowsLieApart, HasWindows}
-use Rattle.plan_model.specs.declared.needs.Needs.{Needs}
 use Rattle.plan_model.specs.declared.graph.Cover.{Cover}
 use Rattle.plan_model.specs.declared.graph.Graph.{Graph}
 use Rattle.plan_model.specs.declared.graph.DataRegion.{DataRegion}
 use Rattle.plan_model.specs.declared.graph.Final.{Final}
-use Rattle.plan_model.specs.declared.plan.Board.{Board}
 use Rattle.plan_model.specs.Boards.{slots_of}
 use Rattle.plan_model.specs.Lists.{has, numbers_below}
 use Rattle.plan_model.specs.Groups.{writes, uses}
@@ -30,7 +27,7 @@ use Rattle.plan_model.specs.Lending.{is_local}
 use Rattle.plan_model.specs.Merging.{next}
 use Rattle.plan_model.specs.Permission.{is_set, may_write}
 use Rattle.plan_model.specs.Regions.{region_at, no_region, global_size, size_of}
-use Rattle.plan.specs.PlannedFirmwares.{IsPlanned}
+use Rattle.image_promises.proofs.PlannedPremises.{PlannedPremises, planned_of}
 use Rattle.image_promises.proofs.Lists.{any_index, each_map, each_passing, below_all}
 use Rattle.image_promises.proofs.CoverParts.{each_in_order}
 use Rattle.base_laws.proofs.Lists.{each_at}
@@ -68,7 +65,9 @@ one_of_kept {X} size test (x ∷ xs) d (suc k) lt t = by (test x) (one_of_kept s
     by true h = let s = sum_by-cons size x (filter test xs) in omega (arith, s, h)
     by false h = h
 
-module _ (w : PlainFirmware) (n : Needs) (f : Final) (b : Board) (ok : IsPlanned w n f b) where
+module _ (planned : PlannedPremises) where
+  open planned use {firmware as w, needs as n, final as f, board as b, is_planned as ok}
+
   abbrev p : Program
   p = resolve w
 
@@ -193,4 +192,4 @@ module _ (w : PlainFirmware) (n : Needs) (f : Final) (b : Board) (ok : IsPlanned
     bounded = record { globals = globals; none = none; locals = locals; periphs = periphs }
 
 pub permissions_are_bounded : WindowsLieApart → PlannedPermissionsAreBounded
-permissions_are_bounded windows w n f b ok = bounded w n f b ok (windows w ok.typed)
+permissions_are_bounded windows w n f b ok = bounded (planned_of ok) (windows w ok.typed)

@@ -13,7 +13,6 @@ use Rattle.machine_protection.specs.declared.words.Rights.TheVariants.{Device}
 use Rattle.machine_protection.specs.Regions.{holds}
 use Rattle.machine_protection.specs.Laws.{RegionsHoldTheirBlocks, RegionsGiveTheirRights}
 use Rattle.ir_model.specs.declared.object.ObjId.{ObjId}
-use Rattle.ir_model.specs.Plain.{PlainFirmware}
 use Rattle.ir_model.specs.Resolve.{resolve}
 use Rattle.ir_model.specs.Resolved.{Program, window_at}
 use Rattle.ir_model.specs.State.{PeriphObject}
@@ -24,7 +23,6 @@ use Rattle.plan_model.specs.declared.groups.Groups.{Groups}
 use Rattle.plan_model.specs.declared.graph.Cover.{Cover}
 use Rattle.plan_model.specs.declared.graph.Graph.{Graph}
 use Rattle.plan_model.specs.declared.graph.Final.{Final}
-use Rattle.plan_model.specs.declared.plan.Board.{Board}
 use Rattle.plan_model.specs.Boards.{slots_of}
 use Rattle.plan_model.specs.Lists.{numbers_below, has}
 use Rattle.plan_model.specs.Needs.{need_of, AreNeeds}
@@ -40,8 +38,9 @@ use Rattle.monitor_model.specs.Records.{compartment_at}
 use Rattle.monitor_model.specs.Setting.{may_load, may_store, allows_stores}
 use Rattle.machine_protection.specs.Protection.{deciding}
 use Rattle.image_promises.specs.Planned.{planned_tables, planned_image}
-use Rattle.plan.specs.PlannedFirmwares.{IsPlanned, plan}
+use Rattle.plan.specs.PlannedFirmwares.{plan}
 use Rattle.image_promises.specs.Parts.{WindowsAreOpen}
+use Rattle.image_promises.proofs.PlannedPremises.{PlannedPremises, planned_of}
 use Rattle.image_promises.proofs.Bearing.{Bears, Borne, here, there, Written, this, behind, written_behind, borne_holds, written_stores, cover_lets, covers_harmless}
 use Rattle.image_promises.proofs.Covers.{stays_all}
 use Rattle.image_promises.proofs.CoverParts.{IsPart, AreParts}
@@ -150,7 +149,9 @@ module _ (held : RegionsHoldTheirBlocks) (given : RegionsGiveTheirRights) (a : �
 abbrev pub FitsSlots : Type 0
 FitsSlots = (p : Program) (slots : ℕ) (g : Graph) (f : Final) → 2 ≤ slots → IsMerged p slots g f → (c : ℕ) → c < f.groups.count → length (regions_used f.regions c) + length (get_or f.covers c []) ≤ slots
 
-module _ (held : RegionsHoldTheirBlocks) (given : RegionsGiveTheirRights) (apart : WindowsLieApart) (few : FitsSlots) (w : PlainFirmware) (n : Needs) (f : Final) (b : Board) (is : IsPlanned w n f b) where
+module _ (held : RegionsHoldTheirBlocks) (given : RegionsGiveTheirRights) (apart : WindowsLieApart) (few : FitsSlots) (planned : PlannedPremises) where
+  open planned use {firmware as w, needs as n, final as f, board as b, is_planned as is}
+
   abbrev p : Program
   p = resolve w
 
@@ -205,6 +206,6 @@ module _ (held : RegionsHoldTheirBlocks) (given : RegionsGiveTheirRights) (apart
 
 pub windows_are_open : RegionsHoldTheirBlocks → RegionsGiveTheirRights → WindowsLieApart → FitsSlots → WindowsAreOpen
 windows_are_open held given apart few code w n f b is = record {
-  loads = λ g q j l i m s. window_loads held given apart few w n f b is g q j l (read_uses (resolve w) is.sets b.closed n is.needs g l q i) m s;
-  stores = λ g q j l i m s. window_stores held given apart few w n f b is g q j l (written_uses (resolve w) is.sets b.closed n is.needs g l q i) m s;
+  loads = λ g q j l i m s. window_loads held given apart few (planned_of is) g q j l (read_uses (resolve w) is.sets b.closed n is.needs g l q i) m s;
+  stores = λ g q j l i m s. window_stores held given apart few (planned_of is) g q j l (written_uses (resolve w) is.sets b.closed n is.needs g l q i) m s;
 }
