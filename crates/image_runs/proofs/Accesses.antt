@@ -8,28 +8,24 @@ use Rattle.machine_devices.specs.declared.image.Window.{Window}
 use Rattle.machine_bus.specs.Locations.{location, InWindow}
 use Rattle.ir_model.specs.declared.firmware.Peripheral.{Peripheral}
 use Rattle.ir_model.specs.declared.object.ObjId.TheVariants.{Periph}
-use Rattle.ir_model.specs.Plain.{PlainFirmware}
 use Rattle.ir_model.specs.Resolve as numbers
 use Rattle.ir_model.specs.Resolve.{resolve}
 use Rattle.ir_model.specs.Resolved.{NumberedWindow, window_at, no_window}
 use Rattle.ir_program.specs.Windows.{window_of}
-use Rattle.plan_model.specs.declared.needs.Needs.{Needs}
 use Rattle.plan_model.specs.declared.graph.Cover.{Cover}
-use Rattle.plan_model.specs.declared.graph.Final.{Final}
-use Rattle.plan_model.specs.declared.plan.Board.{Board}
 use Rattle.plan_model.specs.InitialGraph.{cover_of}
 use Rattle.plan_model.specs.Permission.{may_write, may_read}
 use Rattle.monitor_model.specs.declared.tables.Tables.{Tables}
 use Rattle.monitor_model.specs.BlockWords.{current}
 use Rattle.monitor_model.specs.Confined.{later}
 use Rattle.image_promises.specs.Planned.{planned_tables}
-use Rattle.plan.specs.PlannedFirmwares.{IsPlanned}
 use Rattle.image_promises.specs.Permissions.{IsOf, IsOnPeripherals, IsPermitted, OnPeripherals, InData, SlotsArePermitted}
 use Rattle.image_promises.specs.Whole.{IsForBoard}
 use Rattle.machine_devices.specs.Rules.{ObeysRules}
 use Rattle.monitor_runs.specs.Stays.{KeepsMemory}
 use Rattle.monitor_runs.proofs.Windows.{high, window_at as place_window}
 use Rattle.image_runs.specs.Isolated.{AccessesArePermitted}
+use Rattle.image_promises.proofs.PlannedPremises.{PlannedPremises}
 
 -- a window of the list is that of its peripheral
 window_found : (ps : List Peripheral) (q : ℕ) (x : Window) → slice_get (map window_of ps) q ≡ Some x → (q < length ps) × (x.base ≡ (get_or (map numbers.window_of ps) q no_window).base) × (x.size ≡ (get_or (map numbers.window_of ps) q no_window).size)
@@ -39,7 +35,9 @@ window_found (y ∷ ys) zero x e =
     (omega arith, ap (λ (v : Window). v.base) (sym z), ap (λ (v : Window). v.size) (sym z))
 window_found (y ∷ ys) (suc q) x e = let r = window_found ys q x e in (let lt = r.0 in omega (arith, lt), r.1, r.2)
 
-module _ (w : PlainFirmware) (n : Needs) (f : Final) (b : Board) (ok : IsPlanned w n f b) (slots : SlotsArePermitted w n f b) (i : Image) (rules : ObeysRules i) (board : IsForBoard w b i) where
+module _ (planned : PlannedPremises) (slots : SlotsArePermitted planned.firmware planned.needs planned.final planned.board) (i : Image) (rules : ObeysRules i) (board : IsForBoard planned.firmware planned.board i) where
+  open planned use {firmware as w, needs as n, final as f, board as b, is_planned as ok}
+
   abbrev t : Tables
   t = planned_tables w n f b
 

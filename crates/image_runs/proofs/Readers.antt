@@ -12,11 +12,7 @@ use Rattle.machine_model.specs.Confinement.{AnyOf}
 use Rattle.machine_model.specs.Step.{turn}
 use Rattle.base_laws.specs.Lists.{Each}
 use Rattle.ir_model.specs.declared.object.ObjId.TheVariants.{Global}
-use Rattle.ir_model.specs.Plain.{PlainFirmware}
 use Rattle.ir_model.specs.Resolve.{resolve}
-use Rattle.plan_model.specs.declared.needs.Needs.{Needs}
-use Rattle.plan_model.specs.declared.graph.Final.{Final}
-use Rattle.plan_model.specs.declared.plan.Board.{Board}
 use Rattle.plan_model.specs.Permission.{may_read}
 use Rattle.monitor_model.specs.declared.tables.Tables.{Tables}
 use Rattle.monitor_model.specs.Records.{compartment_at}
@@ -25,9 +21,8 @@ use Rattle.monitor_model.specs.Reach.{AllBytes, InOpenStack}
 use Rattle.monitor_model.specs.Confined.{later}
 use Rattle.monitor_model.specs.Handlers.{LoadFor, ForFlash, ForBlock, ForSystem, ForStack, ForLoan, ForReturn}
 use Rattle.image_promises.specs.Planned.{planned_tables}
-use Rattle.plan.specs.PlannedFirmwares.{IsPlanned}
 use Rattle.image_promises.specs.Permissions.{IsByteOf, IsPermitted, OnPeripherals, InData, SlotsArePermitted}
-use Rattle.image_promises.proofs.PlannedPremises.{planned_of}
+use Rattle.image_promises.proofs.PlannedPremises.{PlannedPremises}
 use Rattle.image_promises.proofs.GlobalPlaces.{GlobalLaws, in_ram}
 use Rattle.image_promises.specs.Whole.{IsForBoard}
 use Rattle.monitor_runs.specs.Acts.{Acts, MayRead, ReadsSlot, ReadsStack, ReadsFlash}
@@ -45,8 +40,10 @@ touched P a (y ∷ ys) e (inl h) =
     subst P at (e.0 (a - y.address) (omega (arith, lo, hi)))
 touched P a (y ∷ ys) e (inr h) = touched P a ys e.1 h
 
-module _ (law : GlobalLaws) (w : PlainFirmware) (n : Needs) (f : Final) (b : Board) (ok : IsPlanned w n f b) (slots : SlotsArePermitted w n f b)
-    (i : Image) (rules : ObeysRules i) (board : IsForBoard w b i) (first : State) (keeps : KeepsMemory i (planned_tables w n f b) first) where
+module _ (law : GlobalLaws) (planned : PlannedPremises) (slots : SlotsArePermitted planned.firmware planned.needs planned.final planned.board)
+    (i : Image) (rules : ObeysRules i) (board : IsForBoard planned.firmware planned.board i) (first : State) (keeps : KeepsMemory i (planned_tables planned.firmware planned.needs planned.final planned.board) first) where
+  open planned use {firmware as w, needs as n, final as f, board as b}
+
   abbrev t : Tables
   t = planned_tables w n f b
 
@@ -56,7 +53,7 @@ module _ (law : GlobalLaws) (w : PlainFirmware) (n : Needs) (f : Final) (b : Boa
   module _ (x a : ℕ) (lt : x < length (resolve w).globals) (byte : IsByteOf w n f b x a) where
     in_memory : (i.ram_base ≤ a) × (a < i.ram_base + i.ram_size)
     in_memory =
-        let r = in_ram law (planned_of ok) x lt in
+        let r = in_ram law planned x lt in
         let first = r.0 in
         let last = r.1 in
         let lo = byte.0 in
@@ -71,7 +68,7 @@ module _ (law : GlobalLaws) (w : PlainFirmware) (n : Needs) (f : Final) (b : Boa
       where
         by : IsPermitted w n f b (may_read (resolve w) n f c) c a → may_read (resolve w) n f c (Global x) ≡ true
         by (OnPeripherals o) =
-            absurd (let r = (in_ram law (planned_of ok) x lt).1 in let hi = byte.1 in no_range law w n f b ok slots (may_read (resolve w) n f c) a (omega (arith, r, hi)) _ o)
+            absurd (let r = (in_ram law planned x lt).1 in let hi = byte.1 in no_range law planned slots (may_read (resolve w) n f c) a (omega (arith, r, hi)) _ o)
         by (InData d) = d.permitted x lt byte
 
     off_flash : a < i.flash_base + 0x100000 → ⊥
@@ -94,7 +91,7 @@ module _ (law : GlobalLaws) (w : PlainFirmware) (n : Needs) (f : Final) (b : Boa
     off_open k acts o =
         let most = (keeps.bounded k acts).most_open in
         let hi = o.1 in
-        off law w n f b ok slots x a lt byte (o.0, omega (arith, hi, most))
+        off law planned slots x a lt byte (o.0, omega (arith, hi, most))
 
     by_instruction : (k : ℕ) → Acts i t first k → MayRead i t (at k) a → may_read (resolve w) n f (current i t (at k).ram) (Global x) ≡ true
     by_instruction k acts (ReadsSlot h) = reads_it (current i t (at k).ram) h
@@ -103,7 +100,7 @@ module _ (law : GlobalLaws) (w : PlainFirmware) (n : Needs) (f : Final) (b : Boa
 
     by_monitor : (k : ℕ) → Acts i t first k → LoadFor i t (at k) a → ⊥
     by_monitor k acts (ForFlash o e) = not_flash o e
-    by_monitor k acts (ForBlock o) = off_block law w n f b ok slots x a lt byte o
+    by_monitor k acts (ForBlock o) = off_block law planned slots x a lt byte o
     by_monitor k acts (ForSystem e) =
         let lo = (inside_true 0xE0000000 0x100000 a e).0 in
         let hi = in_memory.1 in
@@ -111,8 +108,8 @@ module _ (law : GlobalLaws) (w : PlainFirmware) (n : Needs) (f : Final) (b : Boa
         let most = rules.ram_most in
         omega (arith, lo, hi, highest, most)
     by_monitor k acts (ForStack o) = off_open k acts o
-    by_monitor k acts (ForLoan l h) = off law w n f b ok slots x a lt byte ((keeps.bounded k acts).lent l a h.live h.from_address h.below_end)
-    by_monitor k acts (ForReturn s h) = off law w n f b ok slots x a lt byte ((keeps.bounded k acts).frame a h)
+    by_monitor k acts (ForLoan l h) = off law planned slots x a lt byte ((keeps.bounded k acts).lent l a h.live h.from_address h.below_end)
+    by_monitor k acts (ForReturn s h) = off law planned slots x a lt byte ((keeps.bounded k acts).frame a h)
 
   pub globals_read : GlobalsAreReadByTheirReaders w n f b i t first
   globals_read closed x a k lt byte acts h =
