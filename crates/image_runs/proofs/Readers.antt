@@ -2,8 +2,6 @@
 use Rattle.std.proofs.Common.{◌≡◌, ℕ, ◌+◌, ◌-◌, ◌<◌, ◌≤◌, inl, inr, true, List, [], ◌∷◌, length, sym, ◌∙◌, subst, arith}
 use Rattle.machine_protection.specs.declared.region.Region.{Region}
 use Rattle.machine_protection.specs.Regions.{holds}
-use Rattle.machine_devices.specs.declared.image.Image.{Image}
-use Rattle.machine_devices.specs.Rules.{ObeysRules}
 use Rattle.machine_bus.specs.Locations.{InRam, InFlash, location}
 use Rattle.machine_bus.proofs.Offsets.{in_ram as ram_place}
 use Rattle.machine_bus.proofs.Ranges.{inside_true}
@@ -24,10 +22,9 @@ use Rattle.image_promises.specs.Planned.{planned_tables}
 use Rattle.image_promises.specs.Permissions.{IsByteOf, IsPermitted, OnPeripherals, InData, SlotsArePermitted}
 use Rattle.image_promises.proofs.PlannedPremises.{PlannedPremises}
 use Rattle.image_promises.proofs.GlobalPlaces.{GlobalLaws, in_ram}
-use Rattle.image_promises.specs.Whole.{IsForBoard}
 use Rattle.monitor_runs.specs.Acts.{Acts, MayRead, ReadsSlot, ReadsStack, ReadsFlash}
-use Rattle.monitor_runs.specs.Stays.{KeepsMemory}
 use Rattle.image_runs.specs.Isolated.{GlobalsAreReadByTheirReaders, MonitorReadsNoGlobal}
+use Rattle.image_runs.proofs.KeptRuns.{KeptRun}
 use Rattle.image_runs.proofs.Globals.{no_range, off, off_block}
 
 -- what holds of each byte of each access holds of a byte that one of them touches
@@ -40,9 +37,9 @@ touched P a (y ∷ ys) e (inl h) =
     subst P at (e.0 (a - y.address) (omega (arith, lo, hi)))
 touched P a (y ∷ ys) e (inr h) = touched P a ys e.1 h
 
-module _ (law : GlobalLaws) (planned : PlannedPremises) (slots : SlotsArePermitted planned.firmware planned.needs planned.final planned.board)
-    (i : Image) (rules : ObeysRules i) (board : IsForBoard planned.firmware planned.board i) (first : State) (keeps : KeepsMemory i (planned_tables planned.firmware planned.needs planned.final planned.board) first) where
+module _ (law : GlobalLaws) (planned : PlannedPremises) (slots : SlotsArePermitted planned.firmware planned.needs planned.final planned.board) (run : KeptRun planned) where
   open planned use {firmware as w, needs as n, final as f, board as b}
+  open run use {image as i, rules, board, first, keeps}
 
   abbrev t : Tables
   t = planned_tables w n f b
