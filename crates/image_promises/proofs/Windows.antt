@@ -9,13 +9,12 @@ use Rattle.ir_model.specs.Resolve.{resolve}
 use Rattle.ir_model.specs.Resolved.{NumberedWindow, window_at, no_window}
 use Rattle.ir_program.specs.Windows.{window_of}
 use Rattle.ir_laws.specs.Limits.{HasWindows, WindowsLieApart}
-use Rattle.machine_protection.specs.Laws.{RegionsHoldTheirBlocks, RegionsGiveTheirRights}
 use Rattle.image_model.specs.LinkedImage.{linked}
 use Rattle.image_promises.specs.Planned.{planned_image}
 use Rattle.image_promises.proofs.PlannedPremises.{PlannedPremises, planned_of}
 use Rattle.image_promises.proofs.Facts.{PlanLaws, length_is, needed_most}
 use Rattle.image_promises.specs.Parts.{WindowsArePromised}
-use Rattle.image_promises.proofs.WindowsOpen.{FitsSlots, windows_are_open}
+use Rattle.image_promises.proofs.WindowsOpen.{WindowLaws, windows_are_open}
 use Rattle.base_laws.proofs.Multiples.{multiple_of}
 use Rattle.base_laws.proofs.Powers.{power_split}
 use Rattle.machine_bus.proofs.Ranges.{outside_behind as behind_it, inside_yes as in_it, inside_no}
@@ -88,14 +87,14 @@ module _ (law : PlanLaws) (apart : WindowsLieApart) (planned : PlannedPremises) 
       let i = windows.each q l in
       ap (λ x. x % 4) (bases q l) ∙ multiple_of (window_at (resolve w) q).base 4 (2 ^ (i.power.0 - 2)) (2 ^ i.power.0) (power_split 2 i.power.0 (let five : 5 ≤ i.power.0 = i.power.1 in omega (arith, five))) (subst (λ s. (window_at (resolve w) q).base % s ≡ 0) i.power.3 i.aligned)
 
-pub windows_are_promised : PlanLaws → RegionsHoldTheirBlocks → RegionsGiveTheirRights → WindowsLieApart → FitsSlots → WindowsArePromised
+pub windows_are_promised : PlanLaws → WindowLaws → WindowsArePromised
 unfolding linked
-windows_are_promised law held given apart few code w n f b is =
-    let reach = windows_are_open held given apart few code w n f b is in
+windows_are_promised plans law code w n f b is =
+    let reach = windows_are_open law code w n f b is in
     record {
-      bases = bases law apart (planned_of is);
-      aligned = aligned law apart (planned_of is);
-      leads = leads law apart (planned_of is);
+      bases = bases plans law.apart (planned_of is);
+      aligned = aligned plans law.apart (planned_of is);
+      leads = leads plans law.apart (planned_of is);
       loads = reach.loads;
       stores = reach.stores;
     }

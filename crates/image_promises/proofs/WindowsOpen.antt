@@ -149,7 +149,15 @@ module _ (held : RegionsHoldTheirBlocks) (given : RegionsGiveTheirRights) (a : �
 abbrev pub FitsSlots : Type 0
 FitsSlots = (p : Program) (slots : ℕ) (g : Graph) (f : Final) → 2 ≤ slots → IsMerged p slots g f → (c : ℕ) → c < f.groups.count → length (regions_used f.regions c) + length (get_or f.covers c []) ≤ slots
 
-module _ (held : RegionsHoldTheirBlocks) (given : RegionsGiveTheirRights) (apart : WindowsLieApart) (few : FitsSlots) (planned : PlannedPremises) where
+-- what open windows rest on
+pub record WindowLaws : Type 0 where
+  pub held : RegionsHoldTheirBlocks
+  pub given : RegionsGiveTheirRights
+  pub apart : WindowsLieApart
+  pub few : FitsSlots
+
+module _ (law : WindowLaws) (planned : PlannedPremises) where
+  open law use {held, given, apart, few}
   open planned use {firmware as w, needs as n, final as f, board as b, is_planned as is}
 
   abbrev p : Program
@@ -204,8 +212,8 @@ module _ (held : RegionsHoldTheirBlocks) (given : RegionsGiveTheirRights) (apart
       ap (λ gs. allows_stores (deciding gs a)) (slots_at c inn.below)
       ∙ written_stores a (slot_uses p f (plan w n f b) c) 4 (slots_of b) (slots_written g q j l h m s) (uses_few c inn.below) slots_are.1
 
-pub windows_are_open : RegionsHoldTheirBlocks → RegionsGiveTheirRights → WindowsLieApart → FitsSlots → WindowsAreOpen
-windows_are_open held given apart few code w n f b is = record {
-  loads = λ g q j l i m s. window_loads held given apart few (planned_of is) g q j l (read_uses (resolve w) is.sets b.closed n is.needs g l q i) m s;
-  stores = λ g q j l i m s. window_stores held given apart few (planned_of is) g q j l (written_uses (resolve w) is.sets b.closed n is.needs g l q i) m s;
+pub windows_are_open : WindowLaws → WindowsAreOpen
+windows_are_open law code w n f b is = record {
+  loads = λ g q j l i m s. window_loads law (planned_of is) g q j l (read_uses (resolve w) is.sets b.closed n is.needs g l q i) m s;
+  stores = λ g q j l i m s. window_stores law (planned_of is) g q j l (written_uses (resolve w) is.sets b.closed n is.needs g l q i) m s;
 }
