@@ -6,7 +6,6 @@ use Rattle.ir_model.specs.Resolve.{resolve}
 use Rattle.ir_model.specs.Resolved.{Program, global_at}
 use Rattle.plan_model.specs.declared.plan.Plan.{Plan}
 use Rattle.plan_model.specs.declared.plan.Sizes.{Sizes}
-use Rattle.plan_model.specs.Boards.{slots_of}
 use Rattle.plan_model.specs.Lists.{has}
 use Rattle.plan_model.specs.Regions.{global_size}
 use Rattle.plan_model.specs.Blocks.{block, region_bytes, offset_in_region}
@@ -17,7 +16,7 @@ use Rattle.plan_layout_laws.specs.RamLaws.{HoldsAddress}
 use Rattle.plan_layout_laws.specs.RamPlaces.{block_for}
 use Rattle.plan_layout_laws.proofs.Offsets.{some_global}
 use Rattle.plan.specs.PlannedFirmwares.{plan, planned_sizes}
-use Rattle.image_promises.proofs.PlannedPremises.{PlannedPremises}
+use Rattle.image_promises.proofs.PlannedPremises.{PlannedPremises, final_graph_of}
 use Rattle.image_promises.proofs.Facts.{PlanLaws}
 use Rattle.plan_model.proofs.Powers.{small_block}
 use Rattle.base_laws.proofs.Powers.{power_split}
@@ -104,7 +103,7 @@ module _ (law : GlobalLaws) (planned : PlannedPremises) where
   placed_by : (x : ℕ) → x < count → (o : Option ℕ) → region_with f x ≡ o → IsPlaced x
   unfolding global_address
   placed_by x m (Some r) e =
-      let h = region_has p n f (slots_of b) ok.final r x e in
+      let h = region_has (final_graph_of planned) r x e in
       record {
         use_of = ForRegion r;
         is_use = record { of_globals = tt; there = h.0 };
@@ -113,7 +112,7 @@ module _ (law : GlobalLaws) (planned : PlannedPremises) where
         holds = λ byte k. (law.held p f s b ok.board ok.fits aligns x byte k).0 r e;
       }
   placed_by x m None e =
-      let h = no_region_is p n f (slots_of b) ok.final x m e in
+      let h = no_region_is (final_graph_of planned) x m e in
       record {
         use_of = ForUnwritten;
         is_use = record { of_globals = tt; there = some_global f.unwritten x h };

@@ -28,7 +28,7 @@ use Rattle.image_model.specs.LinkedTables.{init_records, words_begin, tables_of}
 use Rattle.image_model.specs.LinkedImage.{linked}
 use Rattle.image_promises.specs.Planned.{planned_tables, planned_image}
 use Rattle.plan.specs.PlannedFirmwares.{planned_sizes, plan}
-use Rattle.image_promises.proofs.PlannedPremises.{PlannedPremises}
+use Rattle.image_promises.proofs.PlannedPremises.{PlannedPremises, final_graph_of}
 use Rattle.image_promises.proofs.Facts.{stack_size_is, stack_least, monitor_size_is}
 use Rattle.plan_model.proofs.Powers.{small_block}
 use Rattle.image_promises.proofs.OpenBytes.{words_held}
@@ -165,15 +165,15 @@ module _ (law : ReadLaws) (typing : TypedOverNumbers) (laid : GlobalsAreLaid) (p
   not_empty ForStack h = absurd h.of_globals
   not_empty ForMonitor h = absurd h.of_globals
   not_empty (ForRegion r) h =
-      let g = regions.filled p n f (slots_of b) ok.final r h.there in
-      large (region_at f.regions r).globals g.0 (regions.below p n f (slots_of b) ok.final r h.there g.0 g.1) g.1
+      let g = regions.filled (final_graph_of planned) r h.there in
+      large (region_at f.regions r).globals g.0 (regions.below (final_graph_of planned) r h.there g.0 g.1) g.1
   not_empty ForUnwritten h = by f.unwritten refl
     where
       by : (ys : List ℕ) → f.unwritten ≡ ys → 0 < words_in p f.unwritten
       by [] e = let m : length f.unwritten ≡ 0 = ap length e in let some = h.there in absurd (omega (arith, m, some))
       by (y ∷ ys) e =
           let g : has f.unwritten y ≡ true = subst (λ zs. has zs y ≡ true) (sym e) (ap (λ c. c || has ys y) (eq-eqb y y refl)) in
-          large f.unwritten y (regions.unwritten_below p n f (slots_of b) ok.final y g) g
+          large f.unwritten y (regions.unwritten_below (final_graph_of planned) y g) g
 
   -- ---- all records
 

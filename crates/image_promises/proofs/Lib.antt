@@ -1,3 +1,4 @@
+pub mod FinalGraphs
 pub mod PlannedPremises
 pub mod FlashBack
 pub mod FlashParts

@@ -18,7 +18,7 @@ use Rattle.monitor_model.specs.Records.{compartment_at, nobody}
 use Rattle.image_model.specs.LinkedTables.{tables_of, comp_record}
 use Rattle.image_promises.specs.Planned.{planned_tables}
 use Rattle.plan.specs.PlannedFirmwares.{plan}
-use Rattle.image_promises.proofs.PlannedPremises.{PlannedPremises, planned_of}
+use Rattle.image_promises.proofs.PlannedPremises.{PlannedPremises, planned_of, final_graph_of}
 use Rattle.image_promises.proofs.Bits.{zero_bit, mask_was_told}
 use Rattle.image_promises.proofs.Masks.{mask_is}
 use Rattle.image_promises.specs.Needed.{MasksAreNeeded, PlannedMasksAreNeeded}
@@ -44,7 +44,7 @@ module _ (planned : PlannedPremises) where
       inner lt true q =
           let kept : kept_mask f f.masks c ≡ get_or f.masks c 0 = ap (λ z. cond z (get_or f.masks c 0) 0) q in
           let all : lent n f.groups ≡ n.lendable = ap (λ z. cond z n.lendable []) q in
-          let m = mask_at c lt ∙ kept ∙ mask_is (resolve w) n f (slots_of b) ok.final c lt in
+          let m = mask_at c lt ∙ kept ∙ mask_is (final_graph_of planned) c lt in
           let r = mask_was_told n (λ x. writes n f.groups c (Local x.0 x.1)) k (sym (ap (λ z. bit_at z k) m) ∙ e) in
           (get_or n.lendable k (0, 0), ap (λ xs. slice_get xs k) all ∙ slice_get-get_or n.lendable k (0, 0) r.0, r.1)
       inner lt false q =

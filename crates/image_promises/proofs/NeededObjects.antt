@@ -27,7 +27,7 @@ use Rattle.plan_model.specs.Lending.{is_local}
 use Rattle.plan_model.specs.Merging.{next}
 use Rattle.plan_model.specs.Permission.{is_set, may_write}
 use Rattle.plan_model.specs.Regions.{region_at, no_region, global_size, size_of}
-use Rattle.image_promises.proofs.PlannedPremises.{PlannedPremises, planned_of}
+use Rattle.image_promises.proofs.PlannedPremises.{PlannedPremises, planned_of, final_graph_of}
 use Rattle.image_promises.proofs.Lists.{any_index, each_map, each_passing, below_all}
 use Rattle.image_promises.proofs.CoverParts.{each_in_order}
 use Rattle.base_laws.proofs.Lists.{each_at}
@@ -116,7 +116,7 @@ module _ (planned : PlannedPremises) where
     where
       inner : c < f.groups.count → writes n f.groups c (Local g l) ≡ true
       inner lt =
-          let r = mask_was_told n (λ x. writes n f.groups c (Local x.0 x.1)) k (sym (ap (λ m. bit_at m k) (mask_is (resolve w) n f (slots_of b) ok.final c lt)) ∙ e) in
+          let r = mask_was_told n (λ x. writes n f.groups c (Local x.0 x.1)) k (sym (ap (λ m. bit_at m k) (mask_is (final_graph_of planned) c lt)) ∙ e) in
           let z = position-Some (is_local g l) n.lendable k (0, 0) at in
           let t = and_parts (nat_eq (get_or n.lendable k (0, 0)).0 g) (nat_eq (get_or n.lendable k (0, 0)).1 l) z.1 in
           let func = eqb-true _ _ t.0 in

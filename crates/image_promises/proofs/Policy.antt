@@ -32,7 +32,7 @@ use Rattle.plan_model.specs.Regions.{region_at, no_region, is_user}
 use Rattle.plan_model.proofs.KeptLimits as limits
 use Rattle.need_laws.specs.Laws.{IsThere, NoStepLeavesNeeds}
 use Rattle.need_laws.specs.Reached.{IsListed, ListsPeriph, IsInNeeds}
-use Rattle.image_promises.proofs.PlannedPremises.{PlannedPremises, planned_of}
+use Rattle.image_promises.proofs.PlannedPremises.{PlannedPremises, planned_of, final_graph_of}
 use Rattle.image_promises.proofs.Bits.{mask_bit}
 use Rattle.image_promises.proofs.Compartments.{in_compartment}
 use Rattle.image_promises.proofs.FinalRegions as regions
@@ -131,7 +131,7 @@ module _ (planned : PlannedPremises) (many : 1 < planned.final.groups.count) (g 
   -- ---- peripherals
 
   reached : (q : ℕ) → q < length p.periphs → uses n f.groups c q ≡ true → list_any (is_inside (cover_of p q)) (get_or f.covers c []) ≡ true
-  reached q lt u = covered p n f (slots_of b) ok.final c q c_below lt u
+  reached q lt u = covered (final_graph_of planned) c q c_below lt u
 
   used : (q : ℕ) → Contains (need_of n g).periphs q → uses n f.groups c q ≡ true
   used q h = one_of f.groups (λ y. has (need_of n y).periphs q) g listed (periph_has (need_of n g).periphs q h)
@@ -149,9 +149,9 @@ module _ (planned : PlannedPremises) (many : 1 < planned.final.groups.count) (g 
   stores (GlobalObject x) i q =
       let lt : x < length p.globals = there (GlobalObject x) (written (GlobalObject x) i) in
       let writer : writes n f.groups c (Global x) ≡ true = one_of f.groups (λ y. has_object (need_of n y).written (Global x)) g listed (has_listed (need_of n g).written (GlobalObject x) i) in
-      let some = regions.in_region p n f (slots_of b) ok.final x lt (regions.written_used p n f (slots_of b) ok.final x c c_below writer) in
+      let some = regions.in_region (final_graph_of planned) x lt (regions.written_used (final_graph_of planned) x c c_below writer) in
       list_any_at (λ (r : DataRegion). has r.writers c && has r.globals x) f.regions some.0 no_region some.1
-      (both (has (region_at f.regions some.0).writers c) (has (region_at f.regions some.0).globals x) (regions.writers p n f (slots_of b) ok.final x c c_below writer some.0 some.1 some.2) some.2)
+      (both (has (region_at f.regions some.0).writers c) (has (region_at f.regions some.0).globals x) (regions.writers (final_graph_of planned) x c c_below writer some.0 some.1 some.2) some.2)
   stores (PeriphObject q) i h = reached q (there (PeriphObject q) (written (PeriphObject q) i)) (used q h)
   stores (LocalObject h l) i q = ⊎_elim (λ e. inl e) (λ d. inr (lent_bit d)) (cases_eq h g)
     where
@@ -160,7 +160,7 @@ module _ (planned : PlannedPremises) (many : 1 < planned.final.groups.count) (g 
           let x = written (LocalObject h l) i in
           let lendable = ok.needs.lendable.all (h, l) (record { there = there (LocalObject h l) x; cause = OthersWrite g (λ e. d (sym e)) x }) in
           let writer : writes n f.groups c (Local h l) ≡ true = one_of f.groups (λ y. has_object (need_of n y).written (Local h l)) g listed (has_listed (need_of n g).written (LocalObject h l) i) in
-          ap (λ m. is_set m (position (is_local h l) n.lendable)) (mask_is (resolve w) n f (slots_of b) ok.final c c_below) ∙ bit_there n (λ y. writes n f.groups c (Local y.0 y.1)) h l few lendable writer
+          ap (λ m. is_set m (position (is_local h l) n.lendable)) (mask_is (final_graph_of planned) c c_below) ∙ bit_there n (λ y. writes n f.groups c (Local y.0 y.1)) h l few lendable writer
   stores (FunctionObject h) i q = subst (λ (x : Object). Rattle.plan_model.specs.Needs.IsWritable p x) i.2 ((ok.needs.funcs g below).written.each i.0 i.1).0
 
   -- ---- loads, on a closed board
@@ -176,10 +176,10 @@ module _ (planned : PlannedPremises) (many : 1 < planned.final.groups.count) (g 
   loads closed (GlobalObject x) i q =
       let lt : x < length p.globals = read_there (GlobalObject x) (read (GlobalObject x) i) in
       let reader : reads n f.groups c (Global x) ≡ true = one_of f.groups (λ y. has_object (need_of n y).read (Global x)) g listed (has_listed (need_of n g).read (GlobalObject x) i) in
-      let some = regions.in_region p n f (slots_of b) ok.final x lt (regions.read_used p n f (slots_of b) ok.final x c closed c_below reader) in
+      let some = regions.in_region (final_graph_of planned) x lt (regions.read_used (final_graph_of planned) x c closed c_below reader) in
       list_any_at (λ (r : DataRegion). is_user c r && has r.globals x) f.regions some.0 no_region some.1
       (both (is_user c (region_at f.regions some.0)) (has (region_at f.regions some.0).globals x)
-      (or_right (has (region_at f.regions some.0).writers c) (has (region_at f.regions some.0).readers c) (regions.readers p n f (slots_of b) ok.final x c closed c_below reader some.0 some.1 some.2)) some.2)
+      (or_right (has (region_at f.regions some.0).writers c) (has (region_at f.regions some.0).readers c) (regions.readers (final_graph_of planned) x c closed c_below reader some.0 some.1 some.2)) some.2)
   loads closed (PeriphObject q) i h = reached q (read_there (PeriphObject q) (read (PeriphObject q) i)) (used q h)
   loads closed (LocalObject h l) i q = ⊎_elim (λ e. inl e) (λ d. inr (lent_bit d)) (cases_eq h g)
     where

@@ -30,7 +30,7 @@ use Rattle.image_model.specs.LinkedTables.{comp_record, tables_of}
 use Rattle.image_model.specs.LinkedImage.{linked}
 use Rattle.image_promises.specs.Planned.{planned_tables, planned_image}
 use Rattle.plan.specs.PlannedFirmwares.{planned_sizes, plan}
-use Rattle.image_promises.proofs.PlannedPremises.{PlannedPremises, planned_of}
+use Rattle.image_promises.proofs.PlannedPremises.{PlannedPremises, planned_of, final_graph_of}
 use Rattle.image_promises.proofs.Facts.{PlanLaws, laid, length_is, needed_most, code_blocks_count, code_block_is, code_at_most}
 use Rattle.image_promises.proofs.FlashParts.{code_count, code_size_is, code_ends}
 use Rattle.image_promises.proofs.Passing.{and_yes, lt_yes, eq_yes, inside_yes, each_yes}
@@ -146,13 +146,13 @@ module _ (law : PlanLaws) (apart : WindowsLieApart) (planned : PlannedPremises) 
           written_passes i t m spot.base spot.size bytes few (ranges.power law planned r lt) (ranges.aligned law planned r lt) (holds_data law planned r lt)
       by false e =
           read_passes i t m spot.base spot.size bytes few (ranges.power law planned r lt) (ranges.aligned law planned r lt) (holds_data law planned r lt)
-          (closed_is ∙ closed_for p n f (slots_of b) is.final r c user e)
+          (closed_is ∙ closed_for (final_graph_of planned) r c user e)
 
   all_pass : (c : ℕ) → Each (Passes i t) (slot_uses p f l c)
   all_pass c =
       each_both (Passes i t) (map (data_slot p f l c) (regions_used f.regions c)) (map cover_slot (get_or f.covers c []))
       (each_chosen (Passes i t) (data_slot p f l c) (λ r. is_user c (region_at f.regions r)) 0 (length f.regions) (λ r lt user. data_passes c r (omega (arith, lt)) user))
-      (covers_pass i t (get_or f.covers c []) (covers_are_parts p n f (slots_of b) is.final (apart w is.typed) c))
+      (covers_pass i t (get_or f.covers c []) (covers_are_parts (final_graph_of planned) (apart w is.typed) c))
 
   slots_are : 4 + slots_of b ≤ 16
   slots_are = ⊎_elim (λ e. omega (arith, e)) (λ e. omega (arith, e)) is.board.regions
@@ -163,11 +163,11 @@ module _ (law : PlanLaws) (apart : WindowsLieApart) (planned : PlannedPremises) 
 
   mask_passes : (c : ℕ) → c < f.groups.count → is_mask t (comp_record p f l (slots_of b) c).mask ≡ true
   unfolding tables_of
-  mask_passes c lt = lt_yes (mask_few p n f (slots_of b) is.final c lt)
+  mask_passes c lt = lt_yes (mask_few (final_graph_of planned) c lt)
 
   reads_pass : (c : ℕ) → c < f.groups.count → is_mask t (comp_record p f l (slots_of b) c).reads ≡ true
   unfolding tables_of
-  reads_pass c lt = lt_yes (reads_few p n f (slots_of b) is.final c lt)
+  reads_pass c lt = lt_yes (reads_few (final_graph_of planned) c lt)
 
   compartment_passes : (c : ℕ) → c < f.groups.count → is_compartment i t (comp_record p f l (slots_of b) c) ≡ true
   compartment_passes c lt = and_yes (code_passes c lt) (and_yes (data_and_covers c) (and_yes (mask_passes c lt) (reads_pass c lt)))

@@ -30,7 +30,7 @@ use Rattle.plan_model.specs.Groups.{compartment_of, uses}
 use Rattle.plan_model.specs.Regions.{regions_used}
 use Rattle.plan_model.specs.Covers.{is_inside, end_of}
 use Rattle.plan_model.specs.InitialGraph.{cover_of, covers_of, initial_graph}
-use Rattle.plan_model.specs.FinalGraph.{IsFinal, IsMerged}
+use Rattle.plan_model.specs.FinalGraph.{IsMerged}
 use Rattle.plan_model.specs.Slots.{SlotUse, cover_slot, data_slot, slot_uses, slot_regions, slots_from}
 use Rattle.need_laws.specs.Reached.{IsListed}
 use Rattle.monitor_model.specs.declared.tables.CompRecord.{CompRecord}
@@ -40,7 +40,8 @@ use Rattle.machine_protection.specs.Protection.{deciding}
 use Rattle.image_promises.specs.Planned.{planned_tables, planned_image}
 use Rattle.plan.specs.PlannedFirmwares.{plan}
 use Rattle.image_promises.specs.Parts.{WindowsAreOpen}
-use Rattle.image_promises.proofs.PlannedPremises.{PlannedPremises, planned_of}
+use Rattle.image_promises.proofs.FinalGraphs.{FinalGraph}
+use Rattle.image_promises.proofs.PlannedPremises.{PlannedPremises, planned_of, final_graph_of}
 use Rattle.image_promises.proofs.Bearing.{Bears, Borne, here, there, Written, this, behind, written_behind, borne_holds, written_stores, cover_lets, covers_harmless}
 use Rattle.image_promises.proofs.Covers.{stays_all}
 use Rattle.image_promises.proofs.CoverParts.{IsPart, AreParts}
@@ -96,7 +97,9 @@ first_at : (p : Program) (n : Needs) (g : Groups) (c : ℕ) → c < g.count → 
 unfolding initial_graph
 first_at p n g c l = get_or-map-range_with_len (covers_of p n g) 0 g.count c c [] l (omega arith)
 
-module _ (p : Program) (n : Needs) (f : Final) (slots : ℕ) (final : IsFinal p n f.groups slots f) where
+module _ (graph : FinalGraph) where
+  open graph use {program as p, needs as n, final as f, slots, is_final as final}
+
   covers_are : (c : ℕ) → get_or f.covers c [] ≡ get_or final.last.covers c []
   covers_are c = ap (λ (x : Final). get_or x.covers c []) final.is
 
@@ -183,8 +186,8 @@ module _ (law : WindowLaws) (planned : PlannedPremises) where
       let used : uses n f.groups c q ≡ true = one_of f.groups (λ y. has (need_of n y).periphs q) g inn.listed h in
       let windows = apart w is.typed in
       written_behind a (map (data_slot p f (plan w n f b) c) (regions_used f.regions c)) (map cover_slot (get_or f.covers c []))
-      (written_cover held given a (cover_of p q) (get_or f.covers c []) (covers_are_parts p n f (slots_of b) is.final windows c) (omega arith) (omega (arith, s))
-      (covered p n f (slots_of b) is.final c q inn.below m used))
+      (written_cover held given a (cover_of p q) (get_or f.covers c []) (covers_are_parts (final_graph_of planned) windows c) (omega arith) (omega (arith, s))
+      (covered (final_graph_of planned) c q inn.below m used))
 
   slots_at : (c : ℕ) → c < f.groups.count → (compartment_at (planned_tables w n f b) c).slots ≡ slots_from 4 (slots_of b) (slot_uses p f (plan w n f b) c)
   unfolding slot_regions

@@ -29,7 +29,7 @@ use Rattle.image_model.specs.LinkedTables.{tables_of, comp_record}
 use Rattle.image_promises.specs.Planned.{planned_tables}
 use Rattle.plan.specs.PlannedFirmwares.{plan}
 use Rattle.base_laws.proofs.Lists.{each_both}
-use Rattle.image_promises.proofs.PlannedPremises.{PlannedPremises, planned_of}
+use Rattle.image_promises.proofs.PlannedPremises.{PlannedPremises, planned_of, final_graph_of}
 use Rattle.image_promises.proofs.Lists.{each_passing, each_map, below_all}
 use Rattle.image_promises.proofs.Bearing.{use_region}
 use Rattle.image_promises.proofs.CoverParts.{IsPart}
@@ -89,7 +89,7 @@ module _ (law : OwnSlotLaws) (planned : PlannedPremises) where
     all_serve =
         each_both Serves (map (data_slot p f l c) (regions_used f.regions c)) (map cover_slot (get_or f.covers c []))
         (each_map Serves (data_slot p f l c) (λ r. (r < length f.regions) × (is_user c (region_at f.regions r) ≡ true)) (regions_used f.regions c) data_serves used)
-        (each_map Serves cover_slot IsPart (get_or f.covers c []) cover_serves (covers_are_parts p n f (slots_of b) ok.final (law.windows w ok.typed) c))
+        (each_map Serves cover_slot IsPart (get_or f.covers c []) cover_serves (covers_are_parts (final_graph_of planned) (law.windows w ok.typed) c))
 
     slot_serves : AnyOf Q (compartment_at (planned_tables w n f b) c).slots → Goal
     unfolding tables_of

@@ -29,7 +29,7 @@ use Rattle.monitor_model.specs.Records.{compartment_at, nobody}
 use Rattle.image_model.specs.LinkedTables.{tables_of, comp_record}
 use Rattle.image_promises.specs.Planned.{planned_tables}
 use Rattle.plan.specs.PlannedFirmwares.{plan}
-use Rattle.image_promises.proofs.PlannedPremises.{PlannedPremises}
+use Rattle.image_promises.proofs.PlannedPremises.{PlannedPremises, final_graph_of}
 use Rattle.image_promises.proofs.Ranges.{IsUse, block_in, block_size_is}
 use Rattle.image_promises.proofs.Lists.{each_passing, each_map, below_all}
 use Rattle.image_promises.proofs.Bearing.{use_region}
@@ -107,7 +107,7 @@ module _ (law : OwnSlotLaws) (planned : PlannedPremises) (ds : List Denied) (off
     module _ (runs : c < f.groups.count) where
       covers : Each (λ d. IsPart d × IsAllowed d) (get_or f.covers c [])
       covers =
-          with_places IsPart IsAllowed (get_or f.covers c []) no_cover (covers_are_parts p n f (slots_of b) ok.final (law.windows w ok.typed) c)
+          with_places IsPart IsAllowed (get_or f.covers c []) no_cover (covers_are_parts (final_graph_of planned) (law.windows w ok.typed) c)
           (λ k there lo hi. cover_is_allowed ds p f off c k no_cover runs there a lo hi)
 
       all_serve : Each Serves (slot_uses p f l c)
