@@ -4,14 +4,10 @@ use Rattle.std.specs.Prelude.{slice_index}
 use Rattle.base_words.specs.Bytes.{read}
 use Rattle.base_words.proofs.Bytes.{cut_small}
 use Rattle.base_laws.specs.Lists.{Each}
-use Rattle.ir_model.specs.Plain.{PlainFirmware}
 use Rattle.ir_model.specs.Resolve.{resolve}
 use Rattle.ir_model.specs.Resolved.{Program}
 use Rattle.ir_laws.specs.Typed.{TypedOverNumbers}
 use Rattle.ir_laws.specs.Limits.{SizesAreLimited, WindowsLieApart}
-use Rattle.plan_model.specs.declared.needs.Needs.{Needs}
-use Rattle.plan_model.specs.declared.graph.Final.{Final}
-use Rattle.plan_model.specs.declared.plan.Board.{Board}
 use Rattle.plan_model.specs.declared.plan.Plan.{Plan}
 use Rattle.plan_model.specs.Boards.{slots_of}
 use Rattle.plan_model.specs.Lists.{numbers_below}
@@ -23,8 +19,9 @@ use Rattle.monitor_program.specs.TheCode.{monitor_code}
 use Rattle.image_model.specs.LinkedTables.{comp_record, tables_of}
 use Rattle.image_model.specs.LinkedImage.{linked}
 use Rattle.image_promises.specs.Planned.{planned_tables, planned_image}
-use Rattle.plan.specs.PlannedFirmwares.{IsPlanned, plan}
+use Rattle.plan.specs.PlannedFirmwares.{plan}
 use Rattle.image_promises.specs.Laws.{FlashReadsBack}
+use Rattle.image_promises.proofs.PlannedPremises.{PlannedPremises, planned_of}
 use Rattle.image_promises.proofs.Facts.{laid, length_is, flash_least, stack_in, monitor_in}
 use Rattle.plan_model.proofs.KeptLimits.{few}
 use Rattle.image_promises.proofs.ReadBack.{ReadLaws}
@@ -53,7 +50,9 @@ each_at [] k e lt = absurd (omega (arith, lt))
 each_at (x ∷ xs) zero e lt = e.0
 each_at (x ∷ xs) (suc k) e lt = each_at xs k e.1 (omega (arith, lt))
 
-module _ (law : WordLaws) (w : PlainFirmware) (n : Needs) (f : Final) (b : Board) (ok : IsPlanned w n f b) where
+module _ (law : WordLaws) (planned : PlannedPremises) where
+  open planned use {firmware as w, needs as n, final as f, board as b, is_planned as ok}
+
   abbrev p : Program
   p = resolve w
 
@@ -66,7 +65,7 @@ module _ (law : WordLaws) (w : PlainFirmware) (n : Needs) (f : Final) (b : Board
   stack_word : (t.stack.base < 2 ^ 32) × (t.stack.size < 2 ^ 32)
   unfolding tables_of
   stack_word =
-      let ends = (stack_in law.read.plans w n f b ok).0.1 in
+      let ends = (stack_in law.read.plans planned).0.1 in
       let top = ok.board.ram_highest in
       let size = ok.board.ram_size.most in
       (omega (arith, ends, top, size), omega (arith, ends, top, size))
@@ -74,7 +73,7 @@ module _ (law : WordLaws) (w : PlainFirmware) (n : Needs) (f : Final) (b : Board
   monitor_word : t.monitor < 2 ^ 32
   unfolding tables_of
   monitor_word =
-      let ends = (monitor_in law.read.plans w n f b ok).0.1 in
+      let ends = (monitor_in law.read.plans planned).0.1 in
       let top = ok.board.ram_highest in
       let size = ok.board.ram_size.most in
       omega (arith, ends, top, size)
@@ -82,7 +81,7 @@ module _ (law : WordLaws) (w : PlainFirmware) (n : Needs) (f : Final) (b : Board
   head_fits : AreWords (head t)
   unfolding table_bytes
   head_fits =
-      let m = tables_most law.read law.typing w n f b ok in
+      let m = tables_most law.read law.typing planned in
       let c = law.read.counts in
       let q = (few n f.groups ok.limits).compartments in
       let n1 = c.comps p n f l b in
@@ -95,11 +94,11 @@ module _ (law : WordLaws) (w : PlainFirmware) (n : Needs) (f : Final) (b : Board
   pub area_fits : AreWords (area t)
   area_fits =
       both_words (head t) _ head_fits
-      (both_words (flat_map compartment_words t.comps) _ (comps_fit law.read.plans law.windows w n f b ok)
-      (both_words (flat_map site_words t.sites) _ (sites_fit law.read law.typing w n f b ok)
-      (both_words (flat_map target_words t.targets) _ (targets_fit law.read law.typing w n f b ok)
-      (both_words t.lends _ (lends_fit law.read law.sizes w n f b ok)
-      (both_words (flat_map init_words t.inits) t.words (inits_fit law.read law.sizes w n f b ok) (words_fit law.read law.sizes w n f b ok))))))
+      (both_words (flat_map compartment_words t.comps) _ (comps_fit law.read.plans law.windows planned)
+      (both_words (flat_map site_words t.sites) _ (sites_fit law.read law.typing planned)
+      (both_words (flat_map target_words t.targets) _ (targets_fit law.read law.typing planned)
+      (both_words t.lends _ (lends_fit law.read law.sizes planned)
+      (both_words (flat_map init_words t.inits) t.words (inits_fit law.read law.sizes planned) (words_fit law.read law.sizes planned))))))
 
   pub area_stands : FlashReadsBack → (k : ℕ) → k < length (area t) → read 4 (4096 + 4 * k) (planned_image w n f b).flash ≡ slice_index (area t) k
   area_stands back k lt = back.words w n f b ok k lt ∙ cut_small 4 (slice_index (area t) k) (each_at (area t) k area_fits lt)
@@ -114,35 +113,35 @@ module _ (law : WordLaws) (w : PlainFirmware) (n : Needs) (f : Final) (b : Board
 
   area_read : FlashReadsBack → Reads (drop 4096 (planned_image w n f b).flash) 0 (area t)
   area_read back =
-      let size = length_is law.read.plans w n f b ok in
-      let least = flash_least law.read.plans w n f b ok in
+      let size = length_is law.read.plans planned in
+      let least = flash_least law.read.plans planned in
       each_word (drop 4096 (planned_image w n f b).flash) (area t) 0
       (λ k lt. behind_page (planned_image w n f b).flash 4096 (0 + 4 * k) (omega (arith, size, least))
       ∙ ((let e : 4096 + (0 + 4 * k) ≡ 4096 + 4 * k = omega arith in ap (λ o. read 4 o (planned_image w n f b).flash) e) ∙ area_stands back k lt))
 
   base_is : t.base ≡ b.flash_base
   unfolding tables_of
-  base_is = (laid law.read.plans w n f b ok).vectors
+  base_is = (laid law.read.plans planned).vectors
 
   closed_is : t.closed ≡ b.closed
   unfolding tables_of
   closed_is = refl
 
 pub all_words_fit : WordLaws → WordsFit
-all_words_fit law w n f b ok = area_fits law w n f b ok
+all_words_fit law w n f b ok = area_fits law (planned_of ok)
 
 pub words_stand : WordLaws → FlashReadsBack → WordsStand
-words_stand law back w n f b ok = area_stands law w n f b ok back
+words_stand law back w n f b ok = area_stands law (planned_of ok) back
 
 pub tables_read_back : WordLaws → FlashReadsBack → TablesReadBack
 unfolding linked
 tables_read_back law back w n f b ok main main_comp =
     same_tables monitor_code (planned_image w n f b) (planned_tables w n f b)
     (record {
-      base = base_is law w n f b ok;
-      closed = closed_is law w n f b ok;
-      slots = slots_are law w n f b ok;
-      words = area_read law w n f b ok back;
+      base = base_is law (planned_of ok);
+      closed = closed_is law (planned_of ok);
+      slots = slots_are law (planned_of ok);
+      words = area_read law (planned_of ok) back;
       counted = initial_words_are (resolve w) n f (plan w n f b) b;
       main = main;
       main_comp = main_comp;

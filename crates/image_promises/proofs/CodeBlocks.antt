@@ -9,12 +9,8 @@ use mathlib.Core.Logic.{⊎_elim}
 use Rattle.machine_protection.specs.Regions.{holds}
 use Rattle.machine_protection.specs.declared.words.Rights.TheVariants.{Code}
 use Rattle.machine_protection.specs.Laws.{RegionsHoldTheirBlocks}
-use Rattle.ir_model.specs.Plain.{PlainFirmware}
 use Rattle.ir_model.specs.Resolve.{resolve}
 use Rattle.ir_model.specs.Resolved.{Program}
-use Rattle.plan_model.specs.declared.needs.Needs.{Needs}
-use Rattle.plan_model.specs.declared.graph.Final.{Final}
-use Rattle.plan_model.specs.declared.plan.Board.{Board}
 use Rattle.plan_model.specs.declared.plan.Plan.{Plan}
 use Rattle.plan_model.specs.declared.plan.Spot.{Spot}
 use Rattle.plan_model.specs.declared.plan.Sizes.{Sizes}
@@ -27,7 +23,8 @@ use Rattle.monitor_model.specs.Setting.{has_code}
 use Rattle.image_model.specs.LinkedTables.{tables_of}
 use Rattle.refine.specs.Builds.{entry_at}
 use Rattle.image_promises.specs.Planned.{planned_tables}
-use Rattle.plan.specs.PlannedFirmwares.{IsPlanned, plan, planned_sizes}
+use Rattle.plan.specs.PlannedFirmwares.{plan, planned_sizes}
+use Rattle.image_promises.proofs.PlannedPremises.{PlannedPremises, planned_of}
 use Rattle.image_promises.proofs.Facts.{PlanLaws, laid, code_block_is, code_blocks_count}
 use Rattle.image_promises.proofs.FlashParts.{code_count, code_size_is}
 use Rattle.image_promises.specs.Parts.{CodeIsPlaced}
@@ -37,7 +34,9 @@ use Rattle.base_laws.proofs.Multiples.{multiple_of}
 use Rattle.base_laws.proofs.Powers.{power_split}
 use Rattle.plan_model.proofs.Compartments.{each_compartment as all_placed}
 
-module _ (law : PlanLaws) (held : RegionsHoldTheirBlocks) (w : PlainFirmware) (n : Needs) (f : Final) (b : Board) (is : IsPlanned w n f b) where
+module _ (law : PlanLaws) (held : RegionsHoldTheirBlocks) (planned : PlannedPremises) where
+  open planned use {firmware as w, needs as n, final as f, board as b, is_planned as is}
+
   abbrev p : Program
   p = resolve w
 
@@ -62,12 +61,12 @@ module _ (law : PlanLaws) (held : RegionsHoldTheirBlocks) (w : PlainFirmware) (n
       inner : c < length l.code → base_of c % 4 ≡ 0
       inner m =
           let count = spots in
-          let power = (code_block_is law w n f b is c (omega (arith, m, count))).0 in
+          let power = (code_block_is law planned c (omega (arith, m, count))).0 in
           let size : (compartment_spot l c).size ≡ 2 ^ power.0 = code_size_is p f s b c (omega (arith, m, count)) ∙ power.3 in
           let five = power.1 in
           ap (λ x. x % 4) (base_is c m)
           ∙ multiple_of (compartment_spot l c).base 4 (2 ^ (power.0 - 2)) (2 ^ power.0) (power_split 2 power.0 (omega (arith, five)))
-          (subst (λ z. (compartment_spot l c).base % z ≡ 0) size ((laid law w n f b is).aligned c m))
+          (subst (λ z. (compartment_spot l c).base % z ≡ 0) size ((laid law planned).aligned c m))
 
       outer : length l.code ≤ c → base_of c % 4 ≡ 0
       outer m = let size = length-map l.code (λ (x : Spot). x.base) in ap (λ x. x % 4) (get_or_past (map (λ (x : Spot). x.base) l.code) c 0 (omega (arith, size, m)))
@@ -75,11 +74,11 @@ module _ (law : PlanLaws) (held : RegionsHoldTheirBlocks) (w : PlainFirmware) (n
   inside : (c a : ℕ) → c < f.groups.count → base_of c ≤ a → a < base_of c + compartment_size p (code_groups p n f.groups) c → has_code (planned_tables w n f b) c a ≡ true
   inside c a m from to =
       let count = spots in
-      let counted = code_blocks_count law w n f b is in
+      let counted = code_blocks_count law planned in
       let there : c < length s.code = omega (arith, m, counted) in
       let spot = compartment_spot l c in
       let base = base_is c (omega (arith, there, count)) in
-      let block_is = code_block_is law w n f b is c there in
+      let block_is = code_block_is law planned c there in
       let size : spot.size ≡ block (get_or s.code c 0) = code_size_is p f s b c there in
       let power = block_is.0 in
       let exact : spot.size ≡ 2 ^ power.0 = size ∙ power.3 in
@@ -87,12 +86,12 @@ module _ (law : PlanLaws) (held : RegionsHoldTheirBlocks) (w : PlainFirmware) (n
       get_or-map-range_with_len (compartment_size p (code_groups p n f.groups)) 0 f.groups.count c c 0 m (let e : 0 + c ≡ c = omega arith in e) in
       let room = block_is.1 in
       let low = pow_mono {i = 5} {j = power.0} power.1 in
-      let ends = (laid law w n f b is).inside c (omega (arith, there, count)) in
+      let ends = (laid law planned).inside c (omega (arith, there, count)) in
       let from_flash = ends.0 in
       let to_flash = ends.1 in
       let all = is.board.flash_size.most in
       ap (λ (r : CompRecord). holds r.code a) (record_of p n f l b c m)
-      ∙ (held 2 spot.base spot.size 0 Code (lit< tt) (power.0, exact) (omega (arith, low, exact)) (omega (arith, from_flash, to_flash, all)) ((laid law w n f b is).aligned c (omega (arith, there, count))) (lit< tt) a).1
+      ∙ (held 2 spot.base spot.size 0 Code (lit< tt) (power.0, exact) (omega (arith, low, exact)) (omega (arith, from_flash, to_flash, all)) ((laid law planned).aligned c (omega (arith, there, count))) (lit< tt) a).1
       (record { from_base = omega (arith, base, from); below_end = omega (arith, base, to, code, room, size); not_taken_out = λ g. bit_at-zero ((a - spot.base) / (spot.size / 8)) })
 
 pub code_is_placed : PlanLaws → RegionsHoldTheirBlocks → CodeIsPlaced
@@ -100,8 +99,8 @@ unfolding tables_of entry_at
 code_is_placed law held code w n f b is = record {
   count = all_placed (resolve w) f.groups is.groups;
   each = λ g m. (in_compartment (resolve w) f.groups is.groups g m).below;
-  inside = inside law held w n f b is;
-  aligned = aligned law held w n f b is;
+  inside = inside law held (planned_of is);
+  aligned = aligned law held (planned_of is);
   main = omega arith;
   main_compartment = refl;
 }

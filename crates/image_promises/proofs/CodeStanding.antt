@@ -4,12 +4,8 @@ use Rattle.std.specs.Prelude.{slice_index}
 use Rattle.machine_devices.specs.Rules.{ObeysRules}
 use Rattle.machine_devices.specs.declared.image.Image.{Image}
 use Rattle.machine_model.specs.CodeBytes.{HoldsBytes}
-use Rattle.ir_model.specs.Plain.{PlainFirmware}
 use Rattle.ir_model.specs.Resolved.{Program}
 use Rattle.ir_model.specs.Resolve.{resolve}
-use Rattle.plan_model.specs.declared.needs.Needs.{Needs}
-use Rattle.plan_model.specs.declared.graph.Final.{Final}
-use Rattle.plan_model.specs.declared.plan.Board.{Board}
 use Rattle.plan_model.specs.declared.plan.Plan.{Plan}
 use Rattle.plan_model.specs.declared.plan.Sizes.{Sizes}
 use Rattle.plan_model.specs.Placement.{compartment_spot}
@@ -20,15 +16,18 @@ use Rattle.code_effects.specs.Items.{ItemsIn, InstructionsInTable, ItemsStand}
 use Rattle.image_model.specs.LinkedImage.{linked}
 use Rattle.monitor_program.specs.TheCode.{monitor_code}
 use Rattle.image_promises.specs.Planned.{planned_image}
-use Rattle.plan.specs.PlannedFirmwares.{IsPlanned, plan, planned_sizes}
+use Rattle.plan.specs.PlannedFirmwares.{plan, planned_sizes}
 use Rattle.image_promises.specs.Laws.{FlashReadsBack}
+use Rattle.image_promises.proofs.PlannedPremises.{PlannedPremises}
 use Rattle.image_promises.proofs.Facts.{length_is, code_blocks_count}
 use Rattle.image_promises.proofs.FlashParts.{code_ends}
 use Rattle.image_promises.proofs.ReadBack.{code_fits}
 use Rattle.image_promises.proofs.CompartmentCode.{CodeLaws, code_in_table, code_bytes}
 use Rattle.image_promises.proofs.EntryPlaces.{base_is, from_base}
 
-module _ (law : CodeLaws) (has : FlashReadsBack) (w : PlainFirmware) (n : Needs) (f : Final) (b : Board) (ok : IsPlanned w n f b) where
+module _ (law : CodeLaws) (has : FlashReadsBack) (planned : PlannedPremises) where
+  open planned use {firmware as w, needs as n, final as f, board as b, is_planned as ok}
+
   abbrev p : Program
   p = resolve w
 
@@ -52,7 +51,7 @@ module _ (law : CodeLaws) (has : FlashReadsBack) (w : PlainFirmware) (n : Needs)
 
   pub code_exact : (c k : ℕ) → c < f.groups.count → k < length (planned_code p n f l c) → slice_index i.flash (offset c + k) ≡ slice_index (planned_code p n f l c) k
   code_exact c k there m =
-      let small = code_bytes law w n f b ok c there k in
+      let small = code_bytes law planned c there k in
       let whole : slice_index (planned_code p n f l c) k % 256 ≡ slice_index (planned_code p n f l c) k = omega (arith, small) in
       has.code w n f b ok c k there m ∙ whole
 
@@ -62,8 +61,8 @@ module _ (law : CodeLaws) (has : FlashReadsBack) (w : PlainFirmware) (n : Needs)
 
   at_base : (c : ℕ) → c < f.groups.count → i.flash_base + offset c ≡ get_or places.bases c 0
   at_base c there =
-      let e = base_is law.read law.placed monitor_code w n f b ok c there in
-      let from = from_base law.read law.placed monitor_code w n f b ok c there in
+      let e = base_is law.read law.placed monitor_code planned c there in
+      let from = from_base law.read law.placed monitor_code planned c there in
       let first = first_is in
       omega (arith, e, from, first)
 
@@ -72,11 +71,11 @@ module _ (law : CodeLaws) (has : FlashReadsBack) (w : PlainFirmware) (n : Needs)
     where
       room : offset c + length (planned_code p n f l c) ≤ length i.flash
       room =
-          let m = code_blocks_count law.read.plans w n f b ok in
+          let m = code_blocks_count law.read.plans planned in
           let end = code_ends p f s b c (omega (arith, there, m)) in
-          let from = from_base law.read law.placed monitor_code w n f b ok c there in
-          let fit = code_fits law.read w n f b ok c there in
-          let z = length_is law.read.plans w n f b ok in
+          let from = from_base law.read law.placed monitor_code planned c there in
+          let fit = code_fits law.read planned c there in
+          let z = length_is law.read.plans planned in
           omega (arith, end, from, fit, z)
 
   pub code_stands : ItemsStand → ObeysRules i → (c : ℕ) → c < f.groups.count →
@@ -85,5 +84,5 @@ module _ (law : CodeLaws) (has : FlashReadsBack) (w : PlainFirmware) (n : Needs)
       let e = at_base c there in
       subst (λ a. ItemsIn i (compartment_labels p groups places c) a (compartment_items p groups places c)) e
       (items.from_bytes i (compartment_labels p groups places c) (offset c) (compartment_items p groups places c) rules
-      (subst (λ a. InstructionsInTable (compartment_labels p groups places c) a (compartment_items p groups places c)) (sym e) (code_in_table law w n f b ok c there))
+      (subst (λ a. InstructionsInTable (compartment_labels p groups places c) a (compartment_items p groups places c)) (sym e) (code_in_table law planned c there))
       (subst (λ a. HoldsBytes i (offset c) (bytes_from (compartment_labels p groups places c) a (compartment_items p groups places c))) (sym e) (holds_code c there)))

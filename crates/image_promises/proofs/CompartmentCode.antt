@@ -4,14 +4,10 @@ use Rattle.base_words.specs.Bytes.{AreBytes}
 use Rattle.machine_thumb.specs.declared.table.Instr.TheVariants.{BreakpointNop}
 use Rattle.machine_thumb.specs.Laws.{ShowsItsLength}
 use Rattle.machine_thumb_asm.specs.Assembly.{total}
-use Rattle.ir_model.specs.Plain.{PlainFirmware}
 use Rattle.ir_model.specs.Resolved.{Program, func_at}
 use Rattle.ir_model.specs.Resolve.{resolve}
 use Rattle.ir_laws.specs.Limits.{WindowsLieApart}
 use Rattle.ir_laws.specs.Typed.{TypedOverNumbers, sizes_of}
-use Rattle.plan_model.specs.declared.needs.Needs.{Needs}
-use Rattle.plan_model.specs.declared.graph.Final.{Final}
-use Rattle.plan_model.specs.declared.plan.Board.{Board}
 use Rattle.plan_model.specs.declared.plan.Plan.{Plan}
 use Rattle.code_model.specs.declared.places.Places.{Places}
 use Rattle.code_model.specs.Words.{plain}
@@ -23,7 +19,8 @@ use Rattle.code_lower_laws.specs.Fitting.{TypedFunctionsFit, TypedJumpsInside}
 use Rattle.code_lower_laws.specs.Reaching.{CompartmentsReach}
 use Rattle.code_effects.specs.Items.{InstructionsInTable}
 use Rattle.monitor_program.specs.TheCode.{monitor_code}
-use Rattle.plan.specs.PlannedFirmwares.{IsPlanned, plan}
+use Rattle.plan.specs.PlannedFirmwares.{plan}
+use Rattle.image_promises.proofs.PlannedPremises.{PlannedPremises}
 use Rattle.image_promises.proofs.ReadBack.{ReadLaws}
 use Rattle.image_promises.specs.Parts.{CodeIsPlaced}
 use Rattle.image_promises.proofs.ByteLists.{below_at}
@@ -51,7 +48,9 @@ filling_in : (t : Bool) → Encodable (if t then [] else plain (BreakpointNop 1 
 filling_in true = tt
 filling_in false = ((omega arith, omega arith, λ e. refl), tt)
 
-module _ (law : CodeLaws) (w : PlainFirmware) (n : Needs) (f : Final) (b : Board) (ok : IsPlanned w n f b) where
+module _ (law : CodeLaws) (planned : PlannedPremises) where
+  open planned use {firmware as w, needs as n, final as f, board as b, is_planned as ok}
+
   abbrev p : Program
   p = resolve w
 
@@ -75,16 +74,16 @@ module _ (law : CodeLaws) (w : PlainFirmware) (n : Needs) (f : Final) (b : Board
   code_ends : (h : ℕ) → h < length p.funcs → entry_of p groups places h + size_of p groups h ≤ b.flash_base + 0x100000
   code_ends h there =
       let c : ℕ = compartment_of p groups h in
-      let all = (is law.read law.placed monitor_code w n f b ok).count in
-      let in_one : c < f.groups.count = (is law.read law.placed monitor_code w n f b ok).each h there in
+      let all = (is law.read law.placed monitor_code planned).count in
+      let in_one : c < f.groups.count = (is law.read law.placed monitor_code planned).each h there in
       let room = function_room p groups h (omega (arith, there, all)) in
-      let e = base_is law.read law.placed monitor_code w n f b ok c in_one in
-      let has = code_room law.read law.placed monitor_code w n f b ok c in_one in
-      let end = block_end law.read law.placed monitor_code w n f b ok c in_one in
+      let e = base_is law.read law.placed monitor_code planned c in_one in
+      let has = code_room law.read law.placed monitor_code planned c in_one in
+      let end = block_end law.read law.placed monitor_code planned c in_one in
       omega (arith, room, e, has, end)
 
   entry_even : (h : ℕ) → entry_of p groups places h % 2 ≡ 0
-  entry_even h = let e = entry_aligned law.read law.placed monitor_code w n f b ok h in omega (arith, e)
+  entry_even h = let e = entry_aligned law.read law.placed monitor_code planned h in omega (arith, e)
 
   filled_encodable : (h : ℕ) → h < length p.funcs → Encodable (filled_items p groups places h)
   filled_encodable h there =
@@ -94,9 +93,9 @@ module _ (law : CodeLaws) (w : PlainFirmware) (n : Needs) (f : Final) (b : Board
       let first : ℕ = label_count p groups (before p groups h) in
       encodable-append (function_items (func_at p h) (q h) first (entry_of p groups places h)) (filling (size_of p groups h))
       (function_encodable b.flash_base (b.flash_base + 0x100000) (omega arith) (omega (arith, top)) p (sizes_of w) (func_at p h) (q h)
-      (places_fit law.read law.placed law.fit law.sites law.windows w n f b ok h there)
-      (frame_fits law.read law.placed law.fit law.sites law.windows w n f b ok h there)
-      law.sizes first ((law.typing w ok.typed ok.within).funcs h) (entry_of p groups places h) (entry_in law.read law.placed monitor_code w n f b ok h there).from (omega (arith, t, end)) (entry_even h))
+      (places_fit law.read law.placed law.fit law.sites law.windows planned h there)
+      (frame_fits law.read law.placed law.fit law.sites law.windows planned h there)
+      law.sizes first ((law.typing w ok.typed ok.within).funcs h) (entry_of p groups places h) (entry_in law.read law.placed monitor_code planned h there).from (omega (arith, t, end)) (entry_even h))
       (filling_in (nat_eq (size_of p groups h % 4) 0))
 
   labels_even : (h : ℕ) → h < length p.funcs → EvenLabels (function_labels (func_at p h) (q h) (entry_of p groups places h))
@@ -105,7 +104,7 @@ module _ (law : CodeLaws) (w : PlainFirmware) (n : Needs) (f : Final) (b : Board
   -- ---- a compartment
 
   of_all : {A : Type 0} (Good : List A → Type 0) (pieces : ℕ → List A) → ((h : ℕ) → h < length p.funcs → Good (pieces h)) → (h : ℕ) → h < 0 + length groups.compartments → Good (pieces h)
-  of_all Good pieces each h m = each h (let all = (is law.read law.placed monitor_code w n f b ok).count in omega (arith, m, all))
+  of_all Good pieces each h m = each h (let all = (is law.read law.placed monitor_code planned).count in omega (arith, m, all))
 
   items_encodable : (c : ℕ) → Encodable (compartment_items p groups places c)
   items_encodable c = all_good Encodable tt encodable-append (filled_items p groups places) 0 c groups.compartments (of_all Encodable (filled_items p groups places) filled_encodable)
@@ -117,13 +116,13 @@ module _ (law : CodeLaws) (w : PlainFirmware) (n : Needs) (f : Final) (b : Board
 
   pub code_in_table : (c : ℕ) → c < f.groups.count → InstructionsInTable (compartment_labels p groups places c) (get_or places.bases c 0) (compartment_items p groups places c)
   code_in_table c there =
-      let e = base_is law.read law.placed monitor_code w n f b ok c there in
-      let from = from_base law.read law.placed monitor_code w n f b ok c there in
-      let has = code_room law.read law.placed monitor_code w n f b ok c there in
-      let end = block_end law.read law.placed monitor_code w n f b ok c there in
+      let e = base_is law.read law.placed monitor_code planned c there in
+      let from = from_base law.read law.placed monitor_code planned c there in
+      let has = code_room law.read law.placed monitor_code planned c there in
+      let end = block_end law.read law.placed monitor_code planned c there in
       let top = ok.board.flash_highest in
       let t = law.read.code.sizes p groups places c in
-      let four = (is law.read law.placed monitor_code w n f b ok).aligned c in
+      let four = (is law.read law.placed monitor_code planned).aligned c in
       let near = law.reach p groups places c (law.inside w ok.typed ok.within) (omega (arith, from, has, end)) in
       in_table (compartment_labels p groups places c) (lead_even (compartment_labels p groups places c) (all_even c)) (compartment_items p groups places c) (get_or places.bases c 0) (items_encodable c) (omega (arith, four))
       (omega (arith, e, has, end, top, t)) near

@@ -17,6 +17,7 @@ use Rattle.refine.specs.Refinement.{LinkedImagesRefine, LinkedImagesRefineOrStop
 use Rattle.image_promises.specs.Planned.{planned_tables, planned_image}
 use Rattle.plan.specs.PlannedFirmwares.{plan}
 use Rattle.image_promises.specs.Laws.{OfPlanned, PlannedRangesAreApart}
+use Rattle.image_promises.proofs.PlannedPremises.{planned_of}
 use Rattle.image_promises.proofs.Facts.{PlanLaws}
 use Rattle.image_promises.specs.Parts.{KindsAgree}
 use Rattle.image_promises.specs.Whole.{PlannedImagesAreSound, PlannedImagesAreConfined, PlannedImagesAreLinked, PlannedImagesRefine, PlannedImagesRefineOrStop}
@@ -39,7 +40,7 @@ pub refine_firmwares : PlanLaws → PlannedImagesAreSound → OfPlanned (λ i t.
     → LinkedImagesRefine → PlannedImagesRefine
 unfolding linked
 refine_firmwares law sound rules linked kind apart serve refine w S n f b is least needs =
-    subst (λ (s : ℕ). Refines w n f.groups s (initial_word_count (planned_tables w n f b)) (planned_image w n f b)) (stack_is law w n f b is)
+    subst (λ (s : ℕ). Refines w n f.groups s (initial_word_count (planned_tables w n f b)) (planned_image w n f b)) (stack_is law (planned_of is))
     (refine w S monitor_code (planned_image w n f b) (planned_tables w n f b) n f.groups (code_places (resolve w) n f (plan w n f b)) is.typed is.within least
     (subst (λ closed. AreNeeds (resolve w) S closed n) (sym (kind monitor_code w n f b is)) needs)
     (serve (planned_image w n f b) (planned_tables w n f b) (rules w n f b is) (sound w n f b is) (apart w n f b is))

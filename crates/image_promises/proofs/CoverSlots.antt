@@ -22,6 +22,7 @@ use Rattle.plan_model.specs.FinalGraph.{IsFinal}
 use Rattle.plan_model.specs.Slots.{cover_slot}
 use Rattle.monitor_model.specs.declared.tables.Tables.{Tables}
 use Rattle.monitor_model.specs.RegionChecks.{is_free, is_data, is_read_only, is_cover, is_slot}
+use Rattle.image_promises.proofs.FinalGraphs.{FinalGraph}
 use Rattle.image_promises.proofs.Passing.{and_yes, inside_yes}
 use Rattle.image_promises.proofs.CoverParts.{IsPart, AreParts, joined_part, covers_all, each_in_order}
 use Rattle.image_promises.proofs.Bearing.{use_region}
@@ -66,8 +67,9 @@ module _ (p : Program) (P : Cover → Type 0) (window : (q : ℕ) → q < length
       subst (Each P) (sym (ap (λ (x : Final). get_or x.covers c []) final.is))
       (covers_all P joins_both p slots (initial_graph p n f.groups) final.last final.reached (first_at n f.groups) c)
 
-pub covers_are_parts : (p : Program) (n : Needs) (f : Final) (slots : ℕ) → IsFinal p n f.groups slots f → HasWindows p → (c : ℕ) → AreParts (get_or f.covers c [])
-covers_are_parts p n f slots final windows c = final_covers p IsPart (window_part p windows) joined_part n f slots final c
+pub covers_are_parts : (graph : FinalGraph) → HasWindows graph.program → (c : ℕ) → AreParts (get_or graph.final.covers c [])
+covers_are_parts graph windows c =
+    final_covers graph.program IsPart (window_part graph.program windows) joined_part graph.needs graph.final graph.slots graph.is_final c
 
 -- ---- slots
 

@@ -4,12 +4,8 @@ use Rattle.std.proofs.lemmas.Bool.{cases_lt}
 use mathlib.Core.Logic.{⊎_elim}
 use Rattle.base_ranges.specs.Ranges.{IsPowerBetween, IsInside, AreApart}
 use Rattle.machine_devices.specs.Rules.{block_size}
-use Rattle.ir_model.specs.Plain.{PlainFirmware}
 use Rattle.ir_model.specs.Resolved.{Program}
 use Rattle.ir_model.specs.Resolve.{resolve}
-use Rattle.plan_model.specs.declared.needs.Needs.{Needs}
-use Rattle.plan_model.specs.declared.graph.Final.{Final}
-use Rattle.plan_model.specs.declared.plan.Board.{Board}
 use Rattle.plan_model.specs.declared.plan.Sizes.{Sizes}
 use Rattle.plan_model.specs.declared.plan.Plan.{Plan}
 use Rattle.plan_model.specs.declared.plan.Spot.{Spot}
@@ -21,7 +17,8 @@ use Rattle.plan_layout_laws.specs.RamLaws.{open_bytes}
 use Rattle.image_model.specs.LinkedImage.{linked}
 use Rattle.image_model.specs.LinkedTables.{tables_of}
 use Rattle.image_promises.specs.Planned.{planned_tables, planned_image}
-use Rattle.plan.specs.PlannedFirmwares.{IsPlanned, planned_sizes, plan}
+use Rattle.plan.specs.PlannedFirmwares.{planned_sizes, plan}
+use Rattle.image_promises.proofs.PlannedPremises.{PlannedPremises}
 use Rattle.image_promises.proofs.Facts.{PlanLaws, stack_least, stack_size_is, monitor_size_is}
 use Rattle.plan_model.proofs.Powers.{small_block}
 use Rattle.image_promises.proofs.OpenBytes.{words_held}
@@ -41,7 +38,9 @@ part_apart : (b n a m c k : ℕ) → b ≤ a → a + m ≤ b + n → AreApart b 
 part_apart b n a m c k lo hi (inl e) = inl (omega (arith, e, hi))
 part_apart b n a m c k lo hi (inr e) = inr (omega (arith, e, lo))
 
-module _ (law : PlanLaws) (w : PlainFirmware) (n : Needs) (f : Final) (b : Board) (is : IsPlanned w n f b) (r : ℕ) (lt : r < length f.regions) where
+module _ (law : PlanLaws) (planned : PlannedPremises) (r : ℕ) (lt : r < length planned.final.regions) where
+  open planned use {firmware as w, needs as n, final as f, board as b}
+
   abbrev p : Program
   p = resolve w
 
@@ -61,33 +60,33 @@ module _ (law : PlanLaws) (w : PlainFirmware) (n : Needs) (f : Final) (b : Board
   of_region = record { of_globals = tt; there = lt }
 
   size_is : spot.size ≡ block bytes
-  size_is = block_size_is law w n f b is (ForRegion r) of_region
+  size_is = block_size_is law planned (ForRegion r) of_region
 
   block_small : block bytes < 2 ^ 32
-  block_small = small law w n f b is (ForRegion r) of_region
+  block_small = small law planned (ForRegion r) of_region
 
   pub power : IsPowerBetween 5 31 spot.size
   power = subst (IsPowerBetween 5 31) (sym size_is) (below_top (block bytes) (small_block bytes block_small).0 block_small)
 
   pub aligned : spot.base % spot.size ≡ 0
-  aligned = subst (λ z. spot.base % z ≡ 0) (sym size_is) (block_in law w n f b is (ForRegion r) of_region).1
+  aligned = subst (λ z. spot.base % z ≡ 0) (sym size_is) (block_in law planned (ForRegion r) of_region).1
 
   pub inside : IsInside spot.base spot.size b.ram_base b.ram_size
-  inside = subst (λ z. IsInside spot.base z b.ram_base b.ram_size) (sym size_is) (block_in law w n f b is (ForRegion r) of_region).0
+  inside = subst (λ z. IsInside spot.base z b.ram_base b.ram_size) (sym size_is) (block_in law planned (ForRegion r) of_region).0
 
   some : 0 < open_bytes spot.size bytes
   some = subst (λ z. 0 < open_bytes z bytes) (sym size_is) (words_held bytes block_small).1
 
   off_stack : AreApart spot.base (open_bytes spot.size bytes) l.stack.base l.stack.size
   off_stack =
-      let size = stack_size_is law w n f b is in
-      let least = stack_least law w n f b is in
+      let size = stack_size_is law planned in
+      let least = stack_least law planned in
       apart_from spot.base (open_bytes spot.size bytes) l.stack.base l.stack.size some (omega (arith, size, least))
       (λ x a c d g. law.apart p f s b (ForRegion r) ForStack x (λ q. cc) (a, c) (d, g))
 
   off_monitor : AreApart spot.base (open_bytes spot.size bytes) l.monitor.base block_size
   off_monitor =
-      let size = monitor_size_is law w n f b is in
+      let size = monitor_size_is law planned in
       apart_from spot.base (open_bytes spot.size bytes) l.monitor.base block_size some (lit< tt)
       (λ x a c d g. law.apart p f s b (ForRegion r) ForMonitor x (λ q. cc) (a, c) (d, omega (arith, size, g)))
 

@@ -16,13 +16,9 @@ use Rattle.machine_protection.specs.RegionWords.{region_of}
 use Rattle.machine_protection.specs.Configured.{closed_from, OpenEighthsAreHeld}
 use Rattle.machine_protection.specs.Laws.{RegionsHoldTheirBlocks, RegionsGiveTheirRights}
 use Rattle.base_laws.specs.Lists.{Each}
-use Rattle.ir_model.specs.Plain.{PlainFirmware}
 use Rattle.ir_model.specs.Resolve.{resolve}
 use Rattle.ir_model.specs.Resolved.{Program}
-use Rattle.plan_model.specs.declared.needs.Needs.{Needs}
 use Rattle.plan_model.specs.declared.graph.Cover.{Cover}
-use Rattle.plan_model.specs.declared.graph.Final.{Final}
-use Rattle.plan_model.specs.declared.plan.Board.{Board}
 use Rattle.plan_model.specs.declared.plan.Plan.{Plan}
 use Rattle.plan_model.specs.declared.plan.Sizes.{Sizes}
 use Rattle.plan_model.specs.Lists.{has}
@@ -32,8 +28,9 @@ use Rattle.plan_model.specs.RamBlocks.{ForRegion}
 use Rattle.plan_model.specs.Placement.{region_spot}
 use Rattle.plan_model.specs.Slots.{SlotUse, data_rights, data_slot, cover_slot}
 use Rattle.plan_layout_laws.specs.RamLaws.{HoldsAddress, open_bytes}
-use Rattle.plan.specs.PlannedFirmwares.{IsPlanned, plan, planned_sizes}
+use Rattle.plan.specs.PlannedFirmwares.{plan, planned_sizes}
 use Rattle.plan_model.proofs.Powers.{small_block}
+use Rattle.image_promises.proofs.PlannedPremises.{PlannedPremises}
 use Rattle.image_promises.proofs.Ranges.{IsUse, block_size_is, block_in, small}
 use Rattle.image_promises.proofs.Bearing.{use_region, Bears, Lets, Harmless, Borne, here, there, Written, this, behind, covers_harmless}
 use Rattle.image_promises.proofs.GlobalPlaces.{GlobalLaws}
@@ -97,7 +94,9 @@ few_bits size bytes = by (has_eighths size)
 
 -- ---- the slots of data regions
 
-module _ (law : GlobalLaws) (held : RegionsHoldTheirBlocks) (opened : OpenEighthsAreHeld) (given : RegionsGiveTheirRights) (w : PlainFirmware) (n : Needs) (f : Final) (b : Board) (ok : IsPlanned w n f b) where
+module _ (law : GlobalLaws) (held : RegionsHoldTheirBlocks) (opened : OpenEighthsAreHeld) (given : RegionsGiveTheirRights) (planned : PlannedPremises) where
+  open planned use {firmware as w, needs as n, final as f, board as b}
+
   abbrev p : Program
   p = resolve w
 
@@ -116,14 +115,14 @@ module _ (law : GlobalLaws) (held : RegionsHoldTheirBlocks) (opened : OpenEighth
   pub slot_holds : (c r a m : ℕ) → r < length f.regions → m < 16 → IsTrue (holds (use_region m (data_slot p f l c r)) a) ↔ HoldsAddress p f l (ForRegion r) a
   slot_holds c r a m h number =
       let u = is_use r h in
-      let size : (region_spot l r).size ≡ block (bytes_of r) = block_size_is law.plans w n f b ok (ForRegion r) u in
-      let most = small law.plans w n f b ok (ForRegion r) u in
+      let size : (region_spot l r).size ≡ block (bytes_of r) = block_size_is law.plans planned (ForRegion r) u in
+      let most = small law.plans planned (ForRegion r) u in
       let is = small_block (bytes_of r) most in
       let exact : (region_spot l r).size ≡ 2 ^ is.0.0 = size ∙ is.0.3 in
       let least = pow_mono {i = 5} {j = is.0.0} is.0.1 in
       let room = is.1 in
       open_held held opened (data_rights (region_at f.regions r) c) m a (region_spot l r).base (region_spot l r).size (bytes_of r) number (is.0.0, exact) (omega (arith, exact, least)) (omega (arith, size, most))
-      (subst (λ z. (region_spot l r).base % z ≡ 0) (sym size) (block_in law.plans w n f b ok (ForRegion r) u).1) (omega (arith, size, room))
+      (subst (λ z. (region_spot l r).base % z ≡ 0) (sym size) (block_in law.plans planned (ForRegion r) u).1) (omega (arith, size, room))
 
   module _ (c a r : ℕ) (there_is : r < length f.regions) (it : HoldsAddress p f l (ForRegion r) a) where
     data_bears : Bears a (data_slot p f l c r)

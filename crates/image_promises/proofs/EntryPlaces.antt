@@ -1,11 +1,8 @@
 -- The code of compartments lies in flash, and so does the entry of each function.
 use Rattle.std.proofs.Common.{◌≡◌, ℕ, zero, suc, ◌+◌, ◌%◌, ◌<◌, ◌≤◌, Bool, true, false, List, [], ◌∷◌, length, take, get_or, nat_eq, if◌then◌else◌, arith}
 use Rattle.std.proofs.lemmas.List.{get_or-map}
-use Rattle.ir_model.specs.Plain.{PlainFirmware}
 use Rattle.ir_model.specs.Resolved.{Program}
 use Rattle.ir_model.specs.Resolve.{resolve}
-use Rattle.plan_model.specs.declared.needs.Needs.{Needs}
-use Rattle.plan_model.specs.declared.graph.Final.{Final}
 use Rattle.plan_model.specs.declared.plan.Board.{Board}
 use Rattle.plan_model.specs.declared.plan.Spot.{Spot}
 use Rattle.plan_model.specs.declared.plan.Plan.{Plan}
@@ -14,7 +11,8 @@ use Rattle.plan_model.specs.Placement.{compartment_spot, no_spot}
 use Rattle.code_model.specs.CompartmentCode.{CodeGroups, CodePlaces, compartment_of, members_from, before, total_size, compartment_size, entry_of}
 use Rattle.code_model.specs.Planned.{code_groups, code_places}
 use Rattle.monitor_model.specs.MonitorCode.{MonitorCode}
-use Rattle.plan.specs.PlannedFirmwares.{IsPlanned, plan, planned_sizes}
+use Rattle.plan.specs.PlannedFirmwares.{plan, planned_sizes}
+use Rattle.image_promises.proofs.PlannedPremises.{PlannedPremises}
 use Rattle.image_promises.proofs.Facts.{laid, code_blocks_count, needed_most}
 use Rattle.image_promises.proofs.FlashParts.{code_count, code_ends}
 use Rattle.image_promises.proofs.ReadBack.{ReadLaws, code_length, code_fits}
@@ -40,7 +38,9 @@ pub record IsCodeAddress (b : Board) (address : ℕ) : Type 0 where
   pub from : b.flash_base ≤ address
   pub to : address ≤ b.flash_base + 0x100000
 
-module _ (law : ReadLaws) (placed : CodeIsPlaced) (code : MonitorCode) (w : PlainFirmware) (n : Needs) (f : Final) (b : Board) (ok : IsPlanned w n f b) where
+module _ (law : ReadLaws) (placed : CodeIsPlaced) (code : MonitorCode) (planned : PlannedPremises) where
+  open planned use {firmware as w, needs as n, final as f, board as b, is_planned as ok}
+
   abbrev p : Program
   p = resolve w
 
@@ -61,19 +61,19 @@ module _ (law : ReadLaws) (placed : CodeIsPlaced) (code : MonitorCode) (w : Plai
 
   -- a compartment's code begins where its block does, and has room in it
   listed : (c : ℕ) → c < f.groups.count → c < length s.code
-  listed c h = let m = code_blocks_count law.plans w n f b ok in omega (arith, h, m)
+  listed c h = let m = code_blocks_count law.plans planned in omega (arith, h, m)
 
   pub base_is : (c : ℕ) → c < f.groups.count → get_or places.bases c 0 ≡ (compartment_spot l c).base
   base_is c h = get_or-map (λ (x : Spot). x.base) l.code c no_spot 0 (let m = listed c h in let e = code_count p f s b in omega (arith, m, e))
 
   pub from_base : (c : ℕ) → c < f.groups.count → b.flash_base ≤ (compartment_spot l c).base
-  from_base c h = ((laid law.plans w n f b ok).inside c (let m = listed c h in let e = code_count p f s b in omega (arith, m, e))).0
+  from_base c h = ((laid law.plans planned).inside c (let m = listed c h in let e = code_count p f s b in omega (arith, m, e))).0
 
   pub code_room : (c : ℕ) → c < f.groups.count → compartment_size p groups c ≤ (compartment_spot l c).size
-  code_room c h = let e = code_length law w n f b ok c h in let m = code_fits law w n f b ok c h in omega (arith, e, m)
+  code_room c h = let e = code_length law planned c h in let m = code_fits law planned c h in omega (arith, e, m)
 
   pub block_end : (c : ℕ) → c < f.groups.count → (compartment_spot l c).base + (compartment_spot l c).size ≤ b.flash_base + 0x100000
-  block_end c h = let e = code_ends p f s b c (listed c h) in let m = needed_most law.plans w n f b ok in omega (arith, e, m)
+  block_end c h = let e = code_ends p f s b c (listed c h) in let m = needed_most law.plans planned in omega (arith, e, m)
 
   -- each entry is in flash, at a multiple of four
   pub entry_in : (h : ℕ) → h < length p.funcs → IsCodeAddress b (entry_of p groups places h)

@@ -5,12 +5,8 @@ use Rattle.std.proofs.lemmas.List.FromFn.{length-map-range_with_len}
 use Rattle.std.proofs.Math.Pow.{pow_mono}
 use Rattle.base_words.proofs.Bytes.{length-write_all}
 use Rattle.base_ranges.specs.Ranges.{AreApart, IsPowerBetween}
-use Rattle.ir_model.specs.Plain.{PlainFirmware}
 use Rattle.ir_model.specs.Resolved.{Program}
 use Rattle.ir_model.specs.Resolve.{resolve}
-use Rattle.plan_model.specs.declared.needs.Needs.{Needs}
-use Rattle.plan_model.specs.declared.graph.Final.{Final}
-use Rattle.plan_model.specs.declared.plan.Board.{Board}
 use Rattle.plan_model.specs.declared.plan.Sizes.{Sizes}
 use Rattle.plan_model.specs.declared.plan.Plan.{Plan}
 use Rattle.plan_model.specs.Choices.{greatest}
@@ -29,7 +25,8 @@ use Rattle.monitor_program.specs.Page.{page}
 use Rattle.image_model.specs.LinkedImage.{flash_size, erased, with_tables, linked}
 use Rattle.image_model.specs.LinkedTables.{tables_of}
 use Rattle.image_promises.specs.Planned.{planned_image}
-use Rattle.plan.specs.PlannedFirmwares.{IsPlanned, planned_sizes, plan}
+use Rattle.plan.specs.PlannedFirmwares.{planned_sizes, plan}
+use Rattle.image_promises.proofs.PlannedPremises.{PlannedPremises}
 use Rattle.image_promises.proofs.FlashBack.{length-puts}
 use Rattle.plan_model.proofs.Powers.{small_block}
 use Rattle.image_promises.proofs.FlashParts.{size_is, one_of_sum}
@@ -43,7 +40,9 @@ pub record PlanLaws : Type 0 where
   pub there : RamIsThere
   pub inside : RamIsInside
 
-module _ (law : PlanLaws) (w : PlainFirmware) (n : Needs) (f : Final) (b : Board) (ok : IsPlanned w n f b) where
+module _ (law : PlanLaws) (planned : PlannedPremises) where
+  open planned use {firmware as w, needs as n, final as f, board as b, is_planned as ok}
+
   abbrev p : Program
   p = resolve w
 

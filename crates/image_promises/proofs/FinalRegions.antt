@@ -5,17 +5,15 @@ use Rattle.std.proofs.lemmas.List.Quantifiers.{position-Some}
 use mathlib.Core.Logic.{⊎_elim}
 use Rattle.plan_layout.proofs.Searches.{position_here}
 use Rattle.ir_model.specs.declared.object.ObjId.TheVariants.{Global}
-use Rattle.ir_model.specs.Resolved.{Program}
-use Rattle.plan_model.specs.declared.needs.Needs.{Needs}
 use Rattle.plan_model.specs.declared.graph.DataRegion.{DataRegion}
 use Rattle.plan_model.specs.declared.graph.Final.{Final}
 use Rattle.plan_model.specs.Lists.{has, is_empty, union}
 use Rattle.plan_model.specs.Groups.{writes, reads}
 use Rattle.plan_model.specs.Regions.{region_at, no_region}
 use Rattle.plan_model.specs.InitialGraph.{Users, users_of, has_users, compartments_that, initial_graph, data_regions, unwritten}
-use Rattle.plan_model.specs.FinalGraph.{IsFinal}
 use Rattle.plan_model.specs.Placement.{region_with}
 use Rattle.plan_graph.proofs.UsersHave.{has_union}
+use Rattle.image_promises.proofs.FinalGraphs.{FinalGraph}
 use Rattle.image_promises.proofs.Kept.{kept_final}
 use Rattle.image_promises.proofs.Joins.{EachRegion, SomeRegion, AreApart, StaysOfBoth, StaysOfOne, each_all, some_all, apart_all}
 use Rattle.image_promises.proofs.Lists.{passing_among}
@@ -64,7 +62,9 @@ used_by true true (inr e) = sym e
 
 -- ---- the final graph
 
-module _ (p : Program) (n : Needs) (f : Final) (slots : ℕ) (final : IsFinal p n f.groups slots f) where
+module _ (graph : FinalGraph) where
+  open graph use {program as p, needs as n, final as f, slots, is_final as final}
+
   abbrev count : ℕ
   count = length p.globals
 

@@ -6,20 +6,17 @@ use mathlib.Core.Logic.{⊎_elim}
 use Rattle.machine_devices.specs.Rules.{block_size}
 use Rattle.ir_model.specs.Types.{width_of}
 use Rattle.ir_model.specs.Layout.{CellPlace, Shape, empty}
-use Rattle.ir_model.specs.Plain.{PlainFirmware}
 use Rattle.ir_model.specs.Resolve.{resolve}
 use Rattle.ir_model.specs.Resolved.{Program, NumberedGlobal, global_at, no_global}
 use Rattle.ir_laws.specs.States.{global_shapes}
-use Rattle.plan_model.specs.declared.needs.Needs.{Needs}
-use Rattle.plan_model.specs.declared.graph.Final.{Final}
-use Rattle.plan_model.specs.declared.plan.Board.{Board}
 use Rattle.plan_model.specs.declared.plan.Plan.{Plan}
 use Rattle.plan_model.specs.Lists.{numbers_below}
 use Rattle.plan_model.specs.Regions.{global_size}
 use Rattle.refine.specs.Areas.{Area, Beside, Laid}
 use Rattle.base_laws.specs.Lists.{Each}
 use Rattle.refine.specs.Relation.{cells_at, objects_at}
-use Rattle.plan.specs.PlannedFirmwares.{IsPlanned, plan}
+use Rattle.plan.specs.PlannedFirmwares.{plan}
+use Rattle.image_promises.proofs.PlannedPremises.{PlannedPremises}
 use Rattle.image_promises.proofs.Facts.{stack_in, stack_size_is, stack_least, monitor_in, monitor_size_is}
 use Rattle.image_promises.proofs.Passing.{apart_from}
 use Rattle.base_laws.proofs.Multiples.{IsMultiple, through, both, no_rest}
@@ -38,7 +35,9 @@ cells_aligned base o a cs d (more {c = c} {cs = ds} i e g h) = (
   cells_aligned base o a ds d h,
 )
 
-module _ (law : GlobalLaws) (w : PlainFirmware) (n : Needs) (f : Final) (b : Board) (ok : IsPlanned w n f b) where
+module _ (law : GlobalLaws) (planned : PlannedPremises) where
+  open planned use {firmware as w, needs as n, final as f, board as b}
+
   abbrev p : Program
   p = resolve w
 
@@ -49,7 +48,7 @@ module _ (law : GlobalLaws) (w : PlainFirmware) (n : Needs) (f : Final) (b : Boa
   count = length p.globals
 
   abbrev place : ℕ → ℕ
-  place x = address law w n f b ok x
+  place x = address law planned x
 
   abbrev addresses : List ℕ
   addresses = map place (numbers_below count)
@@ -97,7 +96,7 @@ module _ (law : GlobalLaws) (w : PlainFirmware) (n : Needs) (f : Final) (b : Boa
 
   cells_of : (x : ℕ) → x < count → Each (IsCell x) (cells x)
   cells_of x m =
-      let ram = (in_ram law w n f b ok x m).0 in
+      let ram = (in_ram law planned x m).0 in
       each_to (IsIn (place x - b.ram_base) (global_size p x)) (IsCell x) (cells x)
       (λ c i. let low = i.low in let high = i.high in record { low = omega (arith, low, ram); high = omega (arith, high, ram); some = i.some })
       (cells_inside (place x - b.ram_base) (global_size p x) (global_at p x).shape.cells (global_shaped w x).sound.cells)
@@ -108,16 +107,16 @@ module _ (law : GlobalLaws) (w : PlainFirmware) (n : Needs) (f : Final) (b : Boa
   pub inside : Each (λ (c : Area). c.at + c.width ≤ b.ram_size) (objects_at 0 starts shapes)
   inside =
       each_cell (λ (c : Area). c.at + c.width ≤ b.ram_size)
-      (λ x m. each_of (λ (c : Area). c.at + c.width ≤ b.ram_size) x m (λ c i. let ram = (in_ram law w n f b ok x m).1 in let high = i.high in omega (arith, ram, high)))
+      (λ x m. each_of (λ (c : Area). c.at + c.width ≤ b.ram_size) x m (λ c i. let ram = (in_ram law planned x m).1 in let high = i.high in omega (arith, ram, high)))
 
   pub aligned : Each (λ (c : Area). (b.ram_base + c.at) % c.width ≡ 0) (objects_at 0 starts shapes)
   aligned =
       each_cell (λ (c : Area). (b.ram_base + c.at) % c.width ≡ 0)
       (λ x m.
-      let ram = (in_ram law w n f b ok x m).0 in
+      let ram = (in_ram law planned x m).0 in
       let there : b.ram_base + (place x - b.ram_base) ≡ place x = omega (arith, ram) in
       cells_aligned b.ram_base (place x - b.ram_base) (global_at p x).shape.align (global_at p x).shape.cells
-      (subst (IsMultiple (global_at p x).shape.align) (sym there) (aligned_at law w n f b ok x m)) (global_shaped w x).fair.cells)
+      (subst (IsMultiple (global_at p x).shape.align) (sym there) (aligned_at law planned x m)) (global_shaped w x).fair.cells)
 
   beside : (x y : ℕ) → x < count → y < count → x ≢ y → (c d : Area) → IsCell x c → IsCell y d → Beside c d
   beside x y h k ne c d i j =
@@ -127,7 +126,7 @@ module _ (law : GlobalLaws) (w : PlainFirmware) (n : Needs) (f : Final) (b : Boa
       let four = j.high in
       ⊎_elim (λ le. inl (omega (arith, le))) (λ le. inr (omega (arith, le)))
       (apart_from (b.ram_base + c.at) c.width (b.ram_base + d.at) d.width i.some j.some
-      (λ z s t u v. apart law w n f b ok x y z h k ne (record { low = omega (arith, one, s); high = omega (arith, two, t) }) (record { low = omega (arith, three, u); high = omega (arith, four, v) })))
+      (λ z s t u v. apart law planned x y z h k ne (record { low = omega (arith, one, s); high = omega (arith, two, t) }) (record { low = omega (arith, three, u); high = omega (arith, four, v) })))
 
   pub all_laid : Laid (objects_at 0 starts shapes)
   all_laid =
@@ -150,17 +149,17 @@ module _ (law : GlobalLaws) (w : PlainFirmware) (n : Needs) (f : Final) (b : Boa
   cell_off x m c i =
       let low = i.low in
       let high = i.high in
-      let stack = (stack_in law.plans w n f b ok).0.0 in
-      let size = stack_size_is law.plans w n f b ok in
-      let least = stack_least law.plans w n f b ok in
-      let monitor = (monitor_in law.plans w n f b ok).0.0 in
-      let whole = monitor_size_is law.plans w n f b ok in (
+      let stack = (stack_in law.plans planned).0.0 in
+      let size = stack_size_is law.plans planned in
+      let least = stack_least law.plans planned in
+      let monitor = (monitor_in law.plans planned).0.0 in
+      let whole = monitor_size_is law.plans planned in (
         ⊎_elim (λ le. inl (omega (arith, le, stack))) (λ le. inr (omega (arith, le, stack)))
             (apart_from (b.ram_base + c.at) c.width l.stack.base l.stack.size i.some (omega (arith, size, least))
-            (λ z s t u v. off_stack law w n f b ok x z m (record { low = omega (arith, low, s); high = omega (arith, high, t) }) u v)),
+            (λ z s t u v. off_stack law planned x z m (record { low = omega (arith, low, s); high = omega (arith, high, t) }) u v)),
         ⊎_elim (λ le. inl (omega (arith, le, monitor))) (λ le. inr (omega (arith, le, monitor)))
             (apart_from (b.ram_base + c.at) c.width l.monitor.base 1024 i.some (lit< tt)
-            (λ z s t u v. off_monitor law w n f b ok x z m (record { low = omega (arith, low, s); high = omega (arith, high, t) }) u (omega (arith, v, whole)))),
+            (λ z s t u v. off_monitor law planned x z m (record { low = omega (arith, low, s); high = omega (arith, high, t) }) u (omega (arith, v, whole)))),
       )
 
   pub off : Each IsOff (objects_at 0 starts shapes)

@@ -2,15 +2,10 @@
 use Rattle.std.proofs.Common.{◌≡◌, ◌≢◌, ℕ, ◌<◌, ◌≤◌, ◌+◌, ◌-◌, ◌^◌, ◌⊎◌, inl, inr, true, length, Option, Some, None, refl, ap, sym, subst, arith}
 use Rattle.std.proofs.lemmas.Bool.{cases_eq}
 use mathlib.Core.Logic.{⊎_elim}
-use Rattle.ir_model.specs.Plain.{PlainFirmware}
 use Rattle.ir_model.specs.Resolve.{resolve}
 use Rattle.ir_model.specs.Resolved.{Program, global_at}
-use Rattle.plan_model.specs.declared.needs.Needs.{Needs}
-use Rattle.plan_model.specs.declared.graph.Final.{Final}
-use Rattle.plan_model.specs.declared.plan.Board.{Board}
 use Rattle.plan_model.specs.declared.plan.Plan.{Plan}
 use Rattle.plan_model.specs.declared.plan.Sizes.{Sizes}
-use Rattle.plan_model.specs.Boards.{slots_of}
 use Rattle.plan_model.specs.Lists.{has}
 use Rattle.plan_model.specs.Regions.{global_size}
 use Rattle.plan_model.specs.Blocks.{block, region_bytes, offset_in_region}
@@ -20,7 +15,8 @@ use Rattle.plan_layout_laws.specs.GlobalLaws.{HasAlignments, GlobalsAreLaid, Glo
 use Rattle.plan_layout_laws.specs.RamLaws.{HoldsAddress}
 use Rattle.plan_layout_laws.specs.RamPlaces.{block_for}
 use Rattle.plan_layout_laws.proofs.Offsets.{some_global}
-use Rattle.plan.specs.PlannedFirmwares.{IsPlanned, plan, planned_sizes}
+use Rattle.plan.specs.PlannedFirmwares.{plan, planned_sizes}
+use Rattle.image_promises.proofs.PlannedPremises.{PlannedPremises, final_graph_of}
 use Rattle.image_promises.proofs.Facts.{PlanLaws}
 use Rattle.plan_model.proofs.Powers.{small_block}
 use Rattle.base_laws.proofs.Powers.{power_split}
@@ -75,7 +71,9 @@ not_monitor ForMonitor h = absurd h
 not_monitor (ForRegion r) h = λ e. cc
 not_monitor ForUnwritten h = λ e. cc
 
-module _ (law : GlobalLaws) (w : PlainFirmware) (n : Needs) (f : Final) (b : Board) (ok : IsPlanned w n f b) where
+module _ (law : GlobalLaws) (planned : PlannedPremises) where
+  open planned use {firmware as w, needs as n, final as f, board as b, is_planned as ok}
+
   abbrev p : Program
   p = resolve w
 
@@ -105,7 +103,7 @@ module _ (law : GlobalLaws) (w : PlainFirmware) (n : Needs) (f : Final) (b : Boa
   placed_by : (x : ℕ) → x < count → (o : Option ℕ) → region_with f x ≡ o → IsPlaced x
   unfolding global_address
   placed_by x m (Some r) e =
-      let h = region_has p n f (slots_of b) ok.final r x e in
+      let h = region_has (final_graph_of planned) r x e in
       record {
         use_of = ForRegion r;
         is_use = record { of_globals = tt; there = h.0 };
@@ -114,7 +112,7 @@ module _ (law : GlobalLaws) (w : PlainFirmware) (n : Needs) (f : Final) (b : Boa
         holds = λ byte k. (law.held p f s b ok.board ok.fits aligns x byte k).0 r e;
       }
   placed_by x m None e =
-      let h = no_region_is p n f (slots_of b) ok.final x m e in
+      let h = no_region_is (final_graph_of planned) x m e in
       record {
         use_of = ForUnwritten;
         is_use = record { of_globals = tt; there = some_global f.unwritten x h };
@@ -132,8 +130,8 @@ module _ (law : GlobalLaws) (w : PlainFirmware) (n : Needs) (f : Final) (b : Boa
       let i = placed x m in
       let e = i.address_is in
       let among = (law.laid p (globals_for f i.use_of) aligns).among x i.has_it in
-      let room = (small_block (region_bytes p (globals_for f i.use_of)) (small law.plans w n f b ok i.use_of i.is_use)).1 in
-      let inside = (block_in law.plans w n f b ok i.use_of i.is_use).0 in
+      let room = (small_block (region_bytes p (globals_for f i.use_of)) (small law.plans planned i.use_of i.is_use)).1 in
+      let inside = (block_in law.plans planned i.use_of i.is_use).0 in
       let low = inside.0 in
       let high = inside.1 in
       (omega (arith, e, low), omega (arith, e, among, room, high))
@@ -144,9 +142,9 @@ module _ (law : GlobalLaws) (w : PlainFirmware) (n : Needs) (f : Final) (b : Boa
       let a : ℕ = (global_at p x).shape.align in
       let i = placed x m in
       let bytes : ℕ = region_bytes p (globals_for f i.use_of) in
-      let power = (small_block bytes (small law.plans w n f b ok i.use_of i.is_use)).0 in
+      let power = (small_block bytes (small law.plans planned i.use_of i.is_use)).0 in
       let five = power.1 in
-      let by_block : IsMultiple (2 ^ power.0) (block_for l i.use_of).base = subst (λ z. IsMultiple z (block_for l i.use_of).base) power.3 (from_no_rest (block bytes) (block_for l i.use_of).base (block_in law.plans w n f b ok i.use_of i.is_use).1) in
+      let by_block : IsMultiple (2 ^ power.0) (block_for l i.use_of).base = subst (λ z. IsMultiple z (block_for l i.use_of).base) power.3 (from_no_rest (block bytes) (block_for l i.use_of).base (block_in law.plans planned i.use_of i.is_use).1) in
       let by_four : IsMultiple 4 (block_for l i.use_of).base = multiples.through 4 (2 ^ power.0) (block_for l i.use_of).base (fours power.0 (omega (arith, five))) by_block in
       let by_it : IsMultiple a (block_for l i.use_of).base = multiples.through a 4 (block_for l i.use_of).base (in_fours a (global_shaped w x).fair.small) by_four in
       let offset : IsMultiple a (offset_in_region p (globals_for f i.use_of) x) = from_no_rest a (offset_in_region p (globals_for f i.use_of) x) ((law.laid p (globals_for f i.use_of) aligns).aligned x i.has_it) in

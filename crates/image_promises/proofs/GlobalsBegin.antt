@@ -8,16 +8,12 @@ use Rattle.base_words.specs.Arithmetic.{word}
 use Rattle.machine_model.specs.Confinement.{AnyOf}
 use Rattle.base_laws.specs.Lists.{Each}
 use Rattle.ir_model.specs.Types.{width_of}
-use Rattle.ir_model.specs.Plain.{PlainFirmware}
 use Rattle.ir_model.specs.Layout.{CellPlace}
 use Rattle.ir_model.specs.Resolved.{Program, NumberedGlobal, Value, Number, Code, Null, At, OfGlobal, OfPeriph, OfLocal, no_global, global_at}
 use Rattle.ir_model.specs.Resolve.{resolve}
 use Rattle.ir_model.proofs.Counting.{rounded_at_least}
 use Rattle.ir_laws.specs.Laws.{IsLaidOut}
 use Rattle.ir_laws.specs.Typed.{TypedOverNumbers, sizes_of}
-use Rattle.plan_model.specs.declared.needs.Needs.{Needs}
-use Rattle.plan_model.specs.declared.graph.Final.{Final}
-use Rattle.plan_model.specs.declared.plan.Board.{Board}
 use Rattle.plan_model.specs.declared.plan.Plan.{Plan}
 use Rattle.plan_model.specs.Boards.{slots_of}
 use Rattle.plan_model.specs.Lists.{numbers_below, has}
@@ -39,10 +35,11 @@ use Rattle.image_model.specs.FirstWords.{first_word, first_bytes}
 use Rattle.image_model.specs.LinkedTables.{Filled, filled, object_places, words_begin, tables_of}
 use Rattle.image_model.specs.LinkedImage.{linked}
 use Rattle.image_promises.specs.Planned.{planned_tables, planned_image}
-use Rattle.plan.specs.PlannedFirmwares.{IsPlanned, plan}
+use Rattle.plan.specs.PlannedFirmwares.{plan}
 use Rattle.image_promises.specs.Laws.{FlashReadsBack}
 use Rattle.image_promises.specs.Parts.{linked_build}
 use Rattle.ir_laws.proofs.GlobalShapes.{global_shaped}
+use Rattle.image_promises.proofs.PlannedPremises.{PlannedPremises}
 use Rattle.image_promises.proofs.GlobalPlaces.{GlobalLaws, placed, in_ram, aligns}
 use Rattle.image_promises.proofs.FilledBlocks.{is_filled}
 use Rattle.image_promises.proofs.FirstValues.{IsKnown, values_known}
@@ -57,7 +54,9 @@ any_weaker P Q f [] h = h
 any_weaker P Q f (x ∷ xs) (inl h) = inl (f x h)
 any_weaker P Q f (x ∷ xs) (inr h) = inr (any_weaker P Q f xs h)
 
-module _ (law : GlobalLaws) (counts : CountsAgree) (typing : TypedOverNumbers) (back : FlashReadsBack) (code : MonitorCode) (w : PlainFirmware) (n : Needs) (f : Final) (b : Board) (ok : IsPlanned w n f b) where
+module _ (law : GlobalLaws) (counts : CountsAgree) (typing : TypedOverNumbers) (back : FlashReadsBack) (code : MonitorCode) (planned : PlannedPremises) where
+  open planned use {firmware as w, needs as n, final as f, board as b, is_planned as ok}
+
   abbrev p : Program
   p = resolve w
 
@@ -88,10 +87,10 @@ module _ (law : GlobalLaws) (counts : CountsAgree) (typing : TypedOverNumbers) (
   IsBlockOf x c = (has c.globals x ≡ true) × (address x ≡ c.base + offset_in_region p c.globals x)
 
   filled_with : (x : ℕ) → x < count → AnyOf (IsBlockOf x) (filled f l)
-  filled_with x lt = let i = placed law w n f b ok x lt in is_filled (IsBlockOf x) f l i.use_of i.is_use (i.has_it, i.address_is)
+  filled_with x lt = let i = placed law planned x lt in is_filled (IsBlockOf x) f l i.use_of i.is_use (i.has_it, i.address_is)
 
   low : (x : ℕ) → x < count → b.ram_base ≤ address x
-  low x lt = (in_ram law w n f b ok x lt).0
+  low x lt = (in_ram law planned x lt).0
 
   -- ---- its record
 
@@ -104,7 +103,7 @@ module _ (law : GlobalLaws) (counts : CountsAgree) (typing : TypedOverNumbers) (
       let at = is.at in
       let end = is.end in
       let e = h.1 in
-      let lay = law.laid p c.globals (aligns law w n f b ok) in
+      let lay = law.laid p c.globals (aligns law planned) in
       let among = lay.among x h.0 in
       let up = rounded_at_least (region_bytes p c.globals) 4 (omega arith) in
       let whole = whole_words (region_bytes p c.globals) in
@@ -122,7 +121,7 @@ module _ (law : GlobalLaws) (counts : CountsAgree) (typing : TypedOverNumbers) (
   unfolding tables_of
   brought_by x lt =
       brought p q b.flash_base flash (IsBlockOf x) (Brings (address x) (global_size p x) (global_at p x).shape.cells (global_at p x).init) (brings x) (words_begin p n f l (slots_of b)) (filled f l)
-      (from_base law.plans counts back w n f b ok) (filled_with x lt) (words_stand law.plans counts back w n f b ok)
+      (from_base law.plans counts back planned) (filled_with x lt) (words_stand law.plans counts back planned)
 
   -- ---- words of values
 

@@ -1,13 +1,9 @@
 -- Each global of a planned image lies below 2^32.
 use Rattle.std.proofs.Common.{◌≡◌, ℕ, zero, suc, ◌+◌, ◌^◌, ◌<◌, ◌≤◌, List, [], ◌∷◌, length, get_or, Option, Some, None, refl, sym, ap, ◌∙◌, arith}
 use Rattle.std.specs.Prelude.{unwrap_or}
-use Rattle.ir_model.specs.Plain.{PlainFirmware}
 use Rattle.ir_model.specs.Resolved.{Program}
 use Rattle.ir_model.specs.Resolve.{resolve}
 use Rattle.plan_model.specs.declared.graph.DataRegion.{DataRegion}
-use Rattle.plan_model.specs.declared.needs.Needs.{Needs}
-use Rattle.plan_model.specs.declared.graph.Final.{Final}
-use Rattle.plan_model.specs.declared.plan.Board.{Board}
 use Rattle.plan_model.specs.declared.plan.Plan.{Plan}
 use Rattle.plan_model.specs.declared.plan.Spot.{Spot}
 use Rattle.plan_model.specs.Lists.{has}
@@ -19,7 +15,8 @@ use Rattle.plan_layout.proofs.Searches.{position_is}
 use Rattle.plan_layout_laws.specs.GlobalLaws.{HasAlignments}
 use Rattle.plan_layout_laws.specs.RamPlaces.{block_for}
 use Rattle.plan_layout_laws.proofs.Offsets.{grows}
-use Rattle.plan.specs.PlannedFirmwares.{IsPlanned, plan, planned_sizes}
+use Rattle.plan.specs.PlannedFirmwares.{plan, planned_sizes}
+use Rattle.image_promises.proofs.PlannedPremises.{PlannedPremises}
 use Rattle.image_promises.proofs.Facts.{PlanLaws}
 use Rattle.plan_model.proofs.Powers.{small_block}
 use Rattle.image_promises.proofs.Ranges.{globals_for, IsUse, block_in, small}
@@ -44,7 +41,9 @@ none_at p x = refl
 
 -- ---- addresses
 
-module _ (law : PlanLaws) (w : PlainFirmware) (n : Needs) (f : Final) (b : Board) (ok : IsPlanned w n f b) where
+module _ (law : PlanLaws) (planned : PlannedPremises) where
+  open planned use {firmware as w, needs as n, final as f, board as b, is_planned as ok}
+
   abbrev p : Program
   p = resolve w
 
@@ -53,8 +52,8 @@ module _ (law : PlanLaws) (w : PlainFirmware) (n : Needs) (f : Final) (b : Board
 
   in_block : (u : RamUse) (x : ℕ) → IsUse f u → (block_for l u).base + offset_in_region p (globals_for f u) x < 2 ^ 32
   in_block u x h =
-      let end = (block_in law w n f b ok u h).0.1 in
-      let room = (small_block (region_bytes p (globals_for f u)) (small law w n f b ok u h)).1 in
+      let end = (block_in law planned u h).0.1 in
+      let room = (small_block (region_bytes p (globals_for f u)) (small law planned u h)).1 in
       let o = offset_below p (has_alignments w) (globals_for f u) x in
       let high = ok.board.ram_highest in
       let most = ok.board.ram_size.most in

@@ -1,12 +1,8 @@
 -- The globals of a planned firmware in its linked image.
 use Rattle.std.proofs.Common.{◌≡◌, ℕ, ◌<◌, ◌+◌, ◌-◌, Bool, true, false, length, refl, sym, subst, arith}
-use Rattle.ir_model.specs.Plain.{PlainFirmware}
 use Rattle.ir_model.specs.Resolve.{resolve}
 use Rattle.ir_model.specs.Resolved.{Program}
 use Rattle.ir_model.specs.State.{GlobalObject}
-use Rattle.plan_model.specs.declared.needs.Needs.{Needs}
-use Rattle.plan_model.specs.declared.graph.Final.{Final}
-use Rattle.plan_model.specs.declared.plan.Board.{Board}
 use Rattle.plan_model.specs.Needs.{need_of}
 use Rattle.plan_model.specs.Groups.{compartment_of}
 use Rattle.plan_model.specs.Regions.{global_size}
@@ -17,25 +13,27 @@ use Rattle.image_model.specs.LinkedImage.{linked}
 use Rattle.image_model.specs.LinkedTables.{tables_of}
 use Rattle.refine.specs.Builds.{global_starts}
 use Rattle.image_promises.specs.Planned.{planned_tables, planned_image}
-use Rattle.plan.specs.PlannedFirmwares.{IsPlanned}
 use Rattle.image_promises.specs.Parts.{LoansAreKept}
 use Rattle.image_promises.specs.Globals.{GlobalsArePlaced}
+use Rattle.image_promises.proofs.PlannedPremises.{PlannedPremises, planned_of}
 use Rattle.image_promises.proofs.GlobalPlaces.{address, in_ram}
 use Rattle.image_promises.proofs.GlobalAreas.{count_is, address_is, inside, aligned, all_laid, off}
 use Rattle.image_promises.proofs.Opened.{SlotLaws, stores, closed_loads}
 
-module _ (law : SlotLaws) (loans : LoansAreKept) (code : MonitorCode) (w : PlainFirmware) (n : Needs) (f : Final) (b : Board) (ok : IsPlanned w n f b) where
+module _ (law : SlotLaws) (loans : LoansAreKept) (code : MonitorCode) (planned : PlannedPremises) where
+  open planned use {firmware as w, needs as n, final as f, board as b, is_planned as ok}
+
   abbrev p : Program
   p = resolve w
 
   abbrev place : ℕ → ℕ
-  place x = address law.globals w n f b ok x
+  place x = address law.globals planned x
 
   -- on an open board all of RAM may be loaded
   open_loads : b.closed ≡ false → (c x j : ℕ) → x < length p.globals → j < global_size p x → may_load (planned_image w n f b) (planned_tables w n f b) c (place x + j) ≡ true
   unfolding linked
   open_loads kind c x j there k =
-      let ram = in_ram law.globals w n f b ok x there in
+      let ram = in_ram law.globals planned x there in
       let low = ram.0 in
       let high = ram.1 in
       let same : b.ram_base + (place x + j - b.ram_base) ≡ place x + j = omega (arith, low) in
@@ -47,21 +45,21 @@ module _ (law : SlotLaws) (loans : LoansAreKept) (code : MonitorCode) (w : Plain
   loads g x j m listed there k = by b.closed refl
     where
       by : (t : Bool) → b.closed ≡ t → may_load (planned_image w n f b) (planned_tables w n f b) (compartment_of f.groups g) (place x + j) ≡ true
-      by true e = closed_loads law w n f b ok e g x j m listed there k
+      by true e = closed_loads law planned e g x j m listed there k
       by false e = open_loads e (compartment_of f.groups g) x j there k
 
 pub globals_are_placed : SlotLaws → LoansAreKept → GlobalsArePlaced
 unfolding linked tables_of global_starts
 globals_are_placed law loans code w n f b ok =
-    let at = address_is law.globals w n f b ok in
+    let at = address_is law.globals (planned_of ok) in
     record {
-      count = count_is law.globals w n f b ok;
-      from_base = λ x m. let e = at x m in let ram = (in_ram law.globals w n f b ok x m).0 in omega (arith, e, ram);
-      to_end = λ x m. let e = at x m in let ram = (in_ram law.globals w n f b ok x m).1 in omega (arith, e, ram);
-      inside = inside law.globals w n f b ok;
-      aligned = aligned law.globals w n f b ok;
-      laid = all_laid law.globals w n f b ok;
-      off = off law.globals w n f b ok;
-      loads = λ g x j m i there k. subst (λ a. may_load (planned_image w n f b) (planned_tables w n f b) (compartment_of f.groups g) (a + j) ≡ true) (sym (at x there)) (loads law loans code w n f b ok g x j m i there k);
-      stores = λ g x j m i there k. subst (λ a. may_store (planned_tables w n f b) (compartment_of f.groups g) (a + j) ≡ true) (sym (at x there)) (stores law w n f b ok g x j m i there k);
+      count = count_is law.globals (planned_of ok);
+      from_base = λ x m. let e = at x m in let ram = (in_ram law.globals (planned_of ok) x m).0 in omega (arith, e, ram);
+      to_end = λ x m. let e = at x m in let ram = (in_ram law.globals (planned_of ok) x m).1 in omega (arith, e, ram);
+      inside = inside law.globals (planned_of ok);
+      aligned = aligned law.globals (planned_of ok);
+      laid = all_laid law.globals (planned_of ok);
+      off = off law.globals (planned_of ok);
+      loads = λ g x j m i there k. subst (λ a. may_load (planned_image w n f b) (planned_tables w n f b) (compartment_of f.groups g) (a + j) ≡ true) (sym (at x there)) (loads law loans code (planned_of ok) g x j m i there k);
+      stores = λ g x j m i there k. subst (λ a. may_store (planned_tables w n f b) (compartment_of f.groups g) (a + j) ≡ true) (sym (at x there)) (stores law (planned_of ok) g x j m i there k);
     }

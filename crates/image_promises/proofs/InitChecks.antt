@@ -5,13 +5,9 @@ use Rattle.base_laws.specs.Lists.{Each}
 use Rattle.machine_devices.specs.declared.image.Image.{Image}
 use Rattle.base_ranges.specs.Ranges.{IsInside, AreApart}
 use Rattle.machine_devices.specs.Rules.{block_size}
-use Rattle.ir_model.specs.Plain.{PlainFirmware}
 use Rattle.ir_model.specs.Resolved.{Program}
 use Rattle.ir_model.specs.Resolve.{resolve}
 use Rattle.ir_laws.specs.Typed.{TypedOverNumbers}
-use Rattle.plan_model.specs.declared.needs.Needs.{Needs}
-use Rattle.plan_model.specs.declared.graph.Final.{Final}
-use Rattle.plan_model.specs.declared.plan.Board.{Board}
 use Rattle.plan_model.specs.declared.plan.Plan.{Plan}
 use Rattle.plan_model.specs.declared.plan.Sizes.{Sizes}
 use Rattle.plan_model.specs.Boards.{slots_of}
@@ -31,7 +27,8 @@ use Rattle.monitor_model.specs.Checks.{is_init, inits_from, inits_fail}
 use Rattle.image_model.specs.LinkedTables.{init_records, words_begin, tables_of}
 use Rattle.image_model.specs.LinkedImage.{linked}
 use Rattle.image_promises.specs.Planned.{planned_tables, planned_image}
-use Rattle.plan.specs.PlannedFirmwares.{IsPlanned, planned_sizes, plan}
+use Rattle.plan.specs.PlannedFirmwares.{planned_sizes, plan}
+use Rattle.image_promises.proofs.PlannedPremises.{PlannedPremises, final_graph_of}
 use Rattle.image_promises.proofs.Facts.{stack_size_is, stack_least, monitor_size_is}
 use Rattle.plan_model.proofs.Powers.{small_block}
 use Rattle.image_promises.proofs.OpenBytes.{words_held}
@@ -60,7 +57,9 @@ passes i t a k w even some ins stack mon =
     (and_yes (lt_yes {a = a} {b = a + 4 * k} (omega (arith, some)))
     (and_yes (subst (λ z. is_data_range i t a z ≡ true) s (data_yes i t a (4 * k) ins stack mon)) (eq_yes {a = w} {b = w} refl))))
 
-module _ (law : ReadLaws) (typing : TypedOverNumbers) (laid : GlobalsAreLaid) (w : PlainFirmware) (n : Needs) (f : Final) (b : Board) (ok : IsPlanned w n f b) where
+module _ (law : ReadLaws) (typing : TypedOverNumbers) (laid : GlobalsAreLaid) (planned : PlannedPremises) where
+  open planned use {firmware as w, needs as n, final as f, board as b, is_planned as ok}
+
   abbrev p : Program
   p = resolve w
 
@@ -91,15 +90,15 @@ module _ (law : ReadLaws) (typing : TypedOverNumbers) (laid : GlobalsAreLaid) (w
   room u = open_bytes (block (bytes u)) (bytes u)
 
   held : (u : RamUse) → IsUse f u → (4 * words u ≤ room u) × (0 < room u)
-  held u h = words_held (bytes u) (small law.plans w n f b ok u h)
+  held u h = words_held (bytes u) (small law.plans planned u h)
 
   holds_it : (u : RamUse) → IsUse f u → (x : ℕ) → base u ≤ x → x < base u + room u → HoldsAddress p f l u x
   holds_it ForStack h x a c = absurd h.of_globals
   holds_it ForMonitor h x a c = absurd h.of_globals
   holds_it (ForRegion r) h x a c =
-      (a, subst (λ z. x < (region_spot l r).base + open_bytes z (bytes (ForRegion r))) (sym (block_size_is law.plans w n f b ok (ForRegion r) h)) c)
+      (a, subst (λ z. x < (region_spot l r).base + open_bytes z (bytes (ForRegion r))) (sym (block_size_is law.plans planned (ForRegion r) h)) c)
   holds_it ForUnwritten h x a c =
-      (a, subst (λ z. x < (unwrap_or l.unwritten no_spot).base + open_bytes z (bytes ForUnwritten)) (sym (block_size_is law.plans w n f b ok ForUnwritten h)) c)
+      (a, subst (λ z. x < (unwrap_or l.unwritten no_spot).base + open_bytes z (bytes ForUnwritten)) (sym (block_size_is law.plans planned ForUnwritten h)) c)
 
   no_stack : (u : RamUse) → IsUse f u → u ≢ ForStack
   no_stack ForStack h = absurd h.of_globals
@@ -116,8 +115,8 @@ module _ (law : ReadLaws) (typing : TypedOverNumbers) (laid : GlobalsAreLaid) (w
   off_stack : (u : RamUse) → IsUse f u → AreApart (base u) (4 * words u) l.stack.base l.stack.size
   off_stack u h =
       let e = held u h in
-      let z = stack_size_is law.plans w n f b ok in
-      let least = stack_least law.plans w n f b ok in
+      let z = stack_size_is law.plans planned in
+      let least = stack_least law.plans planned in
       shrink (base u) (4 * words u) (room u) l.stack.base l.stack.size e.0
       (apart_from (base u) (room u) l.stack.base l.stack.size e.1 (omega (arith, z, least))
       (λ x a c d g. law.plans.apart p f s b u ForStack x (no_stack u h) (holds_it u h x a c) (d, g)))
@@ -125,24 +124,24 @@ module _ (law : ReadLaws) (typing : TypedOverNumbers) (laid : GlobalsAreLaid) (w
   off_monitor : (u : RamUse) → IsUse f u → AreApart (base u) (4 * words u) l.monitor.base 1024
   off_monitor u h =
       let e = held u h in
-      let z = monitor_size_is law.plans w n f b ok in
+      let z = monitor_size_is law.plans planned in
       shrink (base u) (4 * words u) (room u) l.monitor.base 1024 e.0
       (apart_from (base u) (room u) l.monitor.base 1024 e.1 (lit< tt)
       (λ x a c d g. law.plans.apart p f s b u ForMonitor x (no_monitor u h) (holds_it u h x a c) (d, omega (arith, g, z))))
 
   even : (u : RamUse) → IsUse f u → base u % 4 ≡ 0
   even u h =
-      let power = (small_block (bytes u) (small law.plans w n f b ok u h)).0 in
+      let power = (small_block (bytes u) (small law.plans planned u h)).0 in
       let five = power.1 in
-      multiple_of (base u) 4 (2 ^ (power.0 - 2)) (block (bytes u)) (power.3 ∙ power_split 2 power.0 (omega (arith, five))) (block_in law.plans w n f b ok u h).1
+      multiple_of (base u) 4 (2 ^ (power.0 - 2)) (block (bytes u)) (power.3 ∙ power_split 2 power.0 (omega (arith, five))) (block_in law.plans planned u h).1
 
   words_fit : (bytes size : ℕ) → bytes ≤ size → size % 4 ≡ 0 → 4 * ((bytes + 3) / 4 * 4 / 4) ≤ size
   words_fit n z le m = omega (arith, le, m)
 
   inside : (u : RamUse) → IsUse f u → IsInside (base u) (4 * words u) b.ram_base b.ram_size
   inside u h =
-      let ins = (block_in law.plans w n f b ok u h).0 in
-      let is = small_block (bytes u) (small law.plans w n f b ok u h) in
+      let ins = (block_in law.plans planned u h).0 in
+      let is = small_block (bytes u) (small law.plans planned u h) in
       let power = is.0 in
       let five = power.1 in
       let exact = power.3 ∙ power_split 2 power.0 (omega (arith, five)) in
@@ -166,15 +165,15 @@ module _ (law : ReadLaws) (typing : TypedOverNumbers) (laid : GlobalsAreLaid) (w
   not_empty ForStack h = absurd h.of_globals
   not_empty ForMonitor h = absurd h.of_globals
   not_empty (ForRegion r) h =
-      let g = regions.filled p n f (slots_of b) ok.final r h.there in
-      large (region_at f.regions r).globals g.0 (regions.below p n f (slots_of b) ok.final r h.there g.0 g.1) g.1
+      let g = regions.filled (final_graph_of planned) r h.there in
+      large (region_at f.regions r).globals g.0 (regions.below (final_graph_of planned) r h.there g.0 g.1) g.1
   not_empty ForUnwritten h = by f.unwritten refl
     where
       by : (ys : List ℕ) → f.unwritten ≡ ys → 0 < words_in p f.unwritten
       by [] e = let m : length f.unwritten ≡ 0 = ap length e in let some = h.there in absurd (omega (arith, m, some))
       by (y ∷ ys) e =
           let g : has f.unwritten y ≡ true = subst (λ zs. has zs y ≡ true) (sym e) (ap (λ c. c || has ys y) (eq-eqb y y refl)) in
-          large f.unwritten y (regions.unwritten_below p n f (slots_of b) ok.final y g) g
+          large f.unwritten y (regions.unwritten_below (final_graph_of planned) y g) g
 
   -- ---- all records
 
@@ -193,7 +192,7 @@ module _ (law : ReadLaws) (typing : TypedOverNumbers) (laid : GlobalsAreLaid) (w
   pub begin_is : words_begin p n f l (slots_of b) ≡ initial_words_at t
   unfolding tables_of
   begin_is =
-      let e = end_is law.counts p n f l b (some law typing w n f b ok) in
+      let e = end_is law.counts p n f l b (some law typing planned) in
       let c = initial_words_are p n f l b in
       let m = law.counts.words p n f l b in
       omega (arith, e, c, m)

@@ -2,13 +2,11 @@
 use Rattle.std.proofs.Common.{◌≡◌, ℕ, ◌+◌, ◌*◌, ◌^◌, ◌<◌, ◌≤◌, List, [], ◌∷◌, flat_map, sum_by, sym, ◌∙◌, subst, arith}
 use Rattle.std.proofs.lemmas.List.Sums.{sum_by-cons}
 use Rattle.base_laws.specs.Lists.{Each}
-use Rattle.ir_model.specs.Plain.{PlainFirmware}
 use Rattle.ir_model.specs.Resolve.{resolve}
 use Rattle.ir_model.specs.Resolved.{Program, local_at}
 use Rattle.ir_laws.specs.Limits.{SizesAreLimited}
 use Rattle.plan_model.specs.declared.needs.Needs.{Needs}
 use Rattle.plan_model.specs.declared.graph.Final.{Final}
-use Rattle.plan_model.specs.declared.plan.Board.{Board}
 use Rattle.plan_model.specs.declared.plan.Plan.{Plan}
 use Rattle.plan_model.specs.Boards.{slots_of}
 use Rattle.plan_model.specs.Blocks.{region_bytes}
@@ -22,7 +20,8 @@ use Rattle.monitor_model.specs.Area.{init_words}
 use Rattle.image_model.specs.FirstWords.{first_bytes, first_words}
 use Rattle.image_model.specs.LinkedTables.{Filled, object_places, init_records, words_begin, filled, tables_of}
 use Rattle.image_promises.specs.Planned.{planned_tables}
-use Rattle.plan.specs.PlannedFirmwares.{IsPlanned, plan}
+use Rattle.plan.specs.PlannedFirmwares.{plan}
+use Rattle.image_promises.proofs.PlannedPremises.{PlannedPremises}
 use Rattle.image_promises.proofs.Facts.{laid, needed_most, tables_at_most, tables_block_is}
 use Rattle.plan_model.proofs.Powers.{small_block}
 use Rattle.image_promises.proofs.Ranges.{IsUse, uses, uses_are, filled_for, filled_is, globals_for, block_in, small}
@@ -51,7 +50,9 @@ first_words_fit : (p : Program) (n : Needs) (f : Final) (l : Plan) (b : Filled) 
 unfolding first_words
 first_words_fit p n f l b = read_words (words_in p b.globals) 0 (first_bytes p (object_places p n f l) b.globals)
 
-module _ (law : ReadLaws) (sizes : SizesAreLimited) (w : PlainFirmware) (n : Needs) (f : Final) (b : Board) (ok : IsPlanned w n f b) where
+module _ (law : ReadLaws) (sizes : SizesAreLimited) (planned : PlannedPremises) where
+  open planned use {firmware as w, needs as n, final as f, board as b, is_planned as ok}
+
   abbrev p : Program
   p = resolve w
 
@@ -65,8 +66,8 @@ module _ (law : ReadLaws) (sizes : SizesAreLimited) (w : PlainFirmware) (n : Nee
 
   use_low : (u : RamUse) → IsUse f u → EndsLow p (filled_for f l u)
   use_low u h =
-      let ends = (block_in law.plans w n f b ok u h).0.1 in
-      let room = (small_block (region_bytes p (globals_for f u)) (small law.plans w n f b ok u h)).1 in
+      let ends = (block_in law.plans planned u h).0.1 in
+      let room = (small_block (region_bytes p (globals_for f u)) (small law.plans planned u h)).1 in
       let top = ok.board.ram_highest in
       let size = ok.board.ram_size.most in
       omega (arith, ends, room, top, size)
@@ -77,10 +78,10 @@ module _ (law : ReadLaws) (sizes : SizesAreLimited) (w : PlainFirmware) (n : Nee
   last_words : words_begin p n f l (slots_of b) + 4 * initial_words p f ≤ 0x20000000
   unfolding table_bytes
   last_words =
-      let h = tables_at_most law.plans w n f b ok in
-      let k = (tables_block_is law.plans w n f b ok).1 in
-      let m = needed_most law.plans w n f b ok in
-      let v = (laid law.plans w n f b ok).vectors in
+      let h = tables_at_most law.plans planned in
+      let k = (tables_block_is law.plans planned).1 in
+      let m = needed_most law.plans planned in
+      let v = (laid law.plans planned).vectors in
       let top = ok.board.flash_highest in
       omega (arith, h, k, m, v, top)
 

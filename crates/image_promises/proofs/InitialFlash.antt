@@ -3,12 +3,8 @@ use Rattle.std.proofs.Common.{◌≡◌, ℕ, ◌+◌, ◌-◌, ◌*◌, ◌≤�
 use Rattle.std.specs.Prelude.{slice_index}
 use Rattle.std.proofs.lemmas.List.{get_or-append-add}
 use Rattle.base_words.specs.Bytes.{read, cut}
-use Rattle.ir_model.specs.Plain.{PlainFirmware}
 use Rattle.ir_model.specs.Resolved.{Program}
 use Rattle.ir_model.specs.Resolve.{resolve}
-use Rattle.plan_model.specs.declared.needs.Needs.{Needs}
-use Rattle.plan_model.specs.declared.graph.Final.{Final}
-use Rattle.plan_model.specs.declared.plan.Board.{Board}
 use Rattle.plan_model.specs.declared.plan.Plan.{Plan}
 use Rattle.plan_model.specs.Boards.{slots_of}
 use Rattle.code_model.specs.declared.places.Places.{Places}
@@ -18,8 +14,9 @@ use Rattle.image_model.specs.Laws.{CountsAgree}
 use Rattle.image_model.specs.FirstWords.{first_words}
 use Rattle.image_model.specs.LinkedTables.{Filled, filled, object_places, words_begin, tables_of}
 use Rattle.image_promises.specs.Planned.{planned_tables, planned_image}
-use Rattle.plan.specs.PlannedFirmwares.{IsPlanned, plan}
+use Rattle.plan.specs.PlannedFirmwares.{plan}
 use Rattle.image_promises.specs.Laws.{FlashReadsBack}
+use Rattle.image_promises.proofs.PlannedPremises.{PlannedPremises}
 use Rattle.image_promises.proofs.AreaSize.{area_size}
 use Rattle.image_promises.proofs.Facts.{PlanLaws, laid}
 use Rattle.image_promises.proofs.WordsBack.{StandAt}
@@ -44,7 +41,9 @@ area_ends t =
     (behind targets (t.lends ++ (inits ++ t.words)) t.words
     (behind t.lends (inits ++ t.words) t.words (record { front = inits; is = refl })))))
 
-module _ (law : PlanLaws) (counts : CountsAgree) (back : FlashReadsBack) (w : PlainFirmware) (n : Needs) (f : Final) (b : Board) (ok : IsPlanned w n f b) where
+module _ (law : PlanLaws) (counts : CountsAgree) (back : FlashReadsBack) (planned : PlannedPremises) where
+  open planned use {firmware as w, needs as n, final as f, board as b, is_planned as ok}
+
   abbrev p : Program
   p = resolve w
 
@@ -58,7 +57,7 @@ module _ (law : PlanLaws) (counts : CountsAgree) (back : FlashReadsBack) (w : Pl
   q = object_places p n f l
 
   pub base_is : l.tables.base ≡ b.flash_base
-  base_is = (laid law w n f b ok).vectors
+  base_is = (laid law planned).vectors
 
   tables_stand : StandAt p q b.flash_base (planned_image w n f b).flash (words_begin p n f l (slots_of b)) t.words
   tables_stand j lt =

@@ -1,3 +1,5 @@
+pub mod FinalGraphs
+pub mod PlannedPremises
 pub mod FlashBack
 pub mod FlashParts
 mod Passing

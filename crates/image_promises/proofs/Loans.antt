@@ -7,7 +7,6 @@ use Rattle.std.proofs.lemmas.List.FromFn.{get_or-map-range_with_len}
 use Rattle.std.proofs.lemmas.List.Quantifiers.{position-Some}
 use Rattle.std.proofs.lemmas.Bool.{or_right, and_from as both, and_parts}
 use Rattle.ir_model.specs.declared.object.ObjId.TheVariants.{Local}
-use Rattle.ir_model.specs.Plain.{PlainFirmware}
 use Rattle.ir_model.specs.Resolve.{resolve}
 use Rattle.ir_model.specs.Resolved.{Program, local_at}
 use Rattle.ir_model.specs.State.{LocalObject}
@@ -22,7 +21,6 @@ use Rattle.plan_model.specs.Groups.{compartment_of, writes, reads}
 use Rattle.plan_model.specs.Needs.{need_of, has_object}
 use Rattle.plan_model.specs.Lending.{lent, is_local, lend_number}
 use Rattle.plan_model.specs.InitialGraph.{mask_of, read_mask_of, mask_where, initial_graph}
-use Rattle.plan_model.specs.FinalGraph.{IsFinal}
 use Rattle.plan_model.specs.Slots.{kept_mask}
 use Rattle.need_laws.specs.Reached.{IsListed}
 use Rattle.machine_bus.specs.Locations.{inside}
@@ -34,8 +32,10 @@ use Rattle.image_model.specs.LinkedTables.{tables_of, comp_record, lend_sizes}
 use Rattle.image_model.specs.LinkedImage.{linked}
 use Rattle.refine.specs.Linked.{HasLoans}
 use Rattle.image_promises.specs.Planned.{planned_tables, planned_image}
-use Rattle.plan.specs.PlannedFirmwares.{IsPlanned, plan}
+use Rattle.plan.specs.PlannedFirmwares.{plan}
 use Rattle.image_promises.specs.Parts.{linked_build, LoansAreKept, KindsAgree}
+use Rattle.image_promises.proofs.FinalGraphs.{FinalGraph}
+use Rattle.image_promises.proofs.PlannedPremises.{PlannedPremises, planned_of, final_graph_of}
 use Rattle.image_promises.proofs.Bits.{mask_bit}
 use Rattle.image_promises.proofs.Kept.{kept_final}
 use Rattle.image_promises.proofs.Reach.{one_of, has_listed}
@@ -91,7 +91,9 @@ record_of p n f l b c m = get_or-map-range_with_len (comp_record p f l (slots_of
 kept_is : (f : Final) (masks : List ℕ) (c : ℕ) → nat_lt 1 f.groups.count ≡ true → kept_mask f masks c ≡ get_or masks c 0
 kept_is f masks c m = ap (λ b. cond b (get_or masks c 0) 0) m
 
-module _ (p : Program) (n : Needs) (f : Final) (slots : ℕ) (final : IsFinal p n f.groups slots f) (c : ℕ) (below : c < f.groups.count) where
+module _ (graph : FinalGraph) (c : ℕ) (below : c < graph.final.groups.count) where
+  open graph use {program as p, needs as n, final as f, slots, is_final as final}
+
   mask_kept : get_or f.masks c 0 ≡ mask_of n f.groups c
   unfolding initial_graph
   mask_kept =
@@ -109,7 +111,9 @@ at_local does n g h l k is P same t =
     let x : ℕ × ℕ = get_or n.lendable k (0, 0) in
     same x ∙ (ap (λ a. P a x.1) is.func ∙ (ap (λ a. P h a) is.local ∙ t))
 
-module _ (code : MonitorCode) (w : PlainFirmware) (n : Needs) (f : Final) (b : Board) (is : IsPlanned w n f b) where
+module _ (code : MonitorCode) (planned : PlannedPremises) where
+  open planned use {firmware as w, needs as n, final as f, board as b, is_planned as is}
+
   number_small : (h l k : ℕ) → IsLent n f.groups h l k → k < 32
   number_small h l k i =
       let few = (few_limits n f.groups is.limits).lent in
@@ -128,7 +132,7 @@ module _ (code : MonitorCode) (w : PlainFirmware) (n : Needs) (f : Final) (b : B
       (one_of f.groups (λ y. has_object (need_of n y).written (Local h l)) g there.listed (has_listed (need_of n g).written (LocalObject h l) listed))) in
       eq-eqb (bit_at (compartment_at (planned_tables w n f b) c).mask k) 1
       (ap (λ (r : CompRecord). bit_at r.mask k) (record_of (resolve w) n f (plan w n f b) b c there.below)
-      ∙ (ap (λ x. bit_at x k) (kept_is f f.masks c i.many ∙ mask_kept (resolve w) n f (slots_of b) is.final c there.below) ∙ bit))
+      ∙ (ap (λ x. bit_at x k) (kept_is f f.masks c i.many ∙ mask_kept (final_graph_of planned) c there.below) ∙ bit))
 
   loads : b.closed ≡ true → (g h l k : ℕ) → g < length (resolve w).funcs → IsListed (need_of n g).read (LocalObject h l) → lend_number n f.groups h l ≡ Some k
       → has_read_loan (planned_image w n f b) (planned_tables w n f b) (compartment_of f.groups g) k ≡ true
@@ -147,7 +151,7 @@ module _ (code : MonitorCode) (w : PlainFirmware) (n : Needs) (f : Final) (b : B
       ap (λ z. z && nat_eq (bit_at (compartment_at (planned_tables w n f b) c).reads k) 1) closed
       ∙ eq-eqb (bit_at (compartment_at (planned_tables w n f b) c).reads k) 1
       (ap (λ (r : CompRecord). bit_at r.reads k) (record_of (resolve w) n f (plan w n f b) b c there.below)
-      ∙ (ap (λ x. bit_at x k) (kept_is f f.reads c i.many ∙ (reads_kept (resolve w) n f (slots_of b) is.final c there.below ∙ open_mask)) ∙ bit))
+      ∙ (ap (λ x. bit_at x k) (kept_is f f.reads c i.many ∙ (reads_kept (final_graph_of planned) c there.below ∙ open_mask)) ∙ bit))
 
   open_loads : b.closed ≡ false → (c o : ℕ) → o < b.ram_size → may_load (planned_image w n f b) (planned_tables w n f b) c (b.ram_base + o) ≡ true
   unfolding linked may_load
@@ -173,7 +177,7 @@ module _ (code : MonitorCode) (w : PlainFirmware) (n : Needs) (f : Final) (b : B
   }
 
 pub loans_are_kept : LoansAreKept
-loans_are_kept code w n f b is = has_loans code w n f b is
+loans_are_kept code w n f b is = has_loans code (planned_of is)
 
 pub kinds_agree : KindsAgree
 unfolding linked

@@ -8,9 +8,9 @@ use Rattle.plan_model.specs.declared.needs.Needs.{Needs}
 use Rattle.plan_model.specs.declared.graph.Final.{Final}
 use Rattle.plan_model.specs.Lending.{lent}
 use Rattle.plan_model.specs.InitialGraph.{mask_where, mask_of, read_mask_of, initial_graph}
-use Rattle.plan_model.specs.FinalGraph.{IsFinal}
 use Rattle.plan_model.specs.Slots.{lend_mask, read_mask}
 use Rattle.image_model.specs.LinkedTables.{lend_sizes}
+use Rattle.image_promises.proofs.FinalGraphs.{FinalGraph}
 use Rattle.image_promises.proofs.Kept.{kept_final}
 use Rattle.image_promises.proofs.RegionWords.{bits_below}
 
@@ -36,24 +36,26 @@ module _ (p : Program) (n : Needs) (f : Final) where
   lent_below m h true = subst (λ k. m < 2 ^ k) (sym (length-map n.lendable (λ (x : ℕ × ℕ). (local_at p x.0 x.1).size))) h
   lent_below m h false = lit< tt
 
-  module _ (slots : ℕ) (final : IsFinal p n f.groups slots f) (c : ℕ) (below : c < f.groups.count) where
-    from_zero : 0 + c ≡ c
-    from_zero = omega arith
+module _ (graph : FinalGraph) (c : ℕ) (below : c < graph.final.groups.count) where
+  open graph use {program as p, needs as n, final as f, slots, is_final as final}
 
-    pub mask_is : get_or f.masks c 0 ≡ mask_of n f.groups c
-    unfolding initial_graph
-    mask_is =
-        let k = kept_final p slots (initial_graph p n f.groups) f final in
-        ap (λ ms. get_or ms c 0) k.masks ∙ get_or-map-range_with_len (mask_of n f.groups) 0 f.groups.count c c 0 below from_zero
+  from_zero : 0 + c ≡ c
+  from_zero = omega arith
 
-    pub reads_is : get_or f.reads c 0 ≡ read_mask_of n f.groups c
-    unfolding initial_graph
-    reads_is =
-        let k = kept_final p slots (initial_graph p n f.groups) f final in
-        ap (λ ms. get_or ms c 0) k.reads ∙ get_or-map-range_with_len (read_mask_of n f.groups) 0 f.groups.count c c 0 below from_zero
+  pub mask_is : get_or f.masks c 0 ≡ mask_of n f.groups c
+  unfolding initial_graph
+  mask_is =
+      let k = kept_final p slots (initial_graph p n f.groups) f final in
+      ap (λ ms. get_or ms c 0) k.masks ∙ get_or-map-range_with_len (mask_of n f.groups) 0 f.groups.count c c 0 below from_zero
 
-    pub mask_few : lend_mask f c < 2 ^ length (lend_sizes p (lent n f.groups))
-    mask_few = lent_below (get_or f.masks c 0) (subst (λ m. m < 2 ^ length n.lendable) (sym mask_is) (mask_below n _)) (nat_lt 1 f.groups.count)
+  pub reads_is : get_or f.reads c 0 ≡ read_mask_of n f.groups c
+  unfolding initial_graph
+  reads_is =
+      let k = kept_final p slots (initial_graph p n f.groups) f final in
+      ap (λ ms. get_or ms c 0) k.reads ∙ get_or-map-range_with_len (read_mask_of n f.groups) 0 f.groups.count c c 0 below from_zero
 
-    pub reads_few : read_mask f c < 2 ^ length (lend_sizes p (lent n f.groups))
-    reads_few = lent_below (get_or f.reads c 0) (subst (λ m. m < 2 ^ length n.lendable) (sym reads_is) (reads_below n _ (mask_below n _) n.closed)) (nat_lt 1 f.groups.count)
+  pub mask_few : lend_mask f c < 2 ^ length (lend_sizes p (lent n f.groups))
+  mask_few = lent_below p n f (get_or f.masks c 0) (subst (λ m. m < 2 ^ length n.lendable) (sym mask_is) (mask_below n _)) (nat_lt 1 f.groups.count)
+
+  pub reads_few : read_mask f c < 2 ^ length (lend_sizes p (lent n f.groups))
+  reads_few = lent_below p n f (get_or f.reads c 0) (subst (λ m. m < 2 ^ length n.lendable) (sym reads_is) (reads_below n _ (mask_below n _) n.closed)) (nat_lt 1 f.groups.count)

@@ -6,6 +6,7 @@ use mathlib.Core.Logic.{⊎_elim}
 use Rattle.image_model.specs.LinkedImage.{linked}
 use Rattle.image_model.specs.LinkedTables.{tables_of}
 use Rattle.plan.specs.PlannedFirmwares.{plan}
+use Rattle.image_promises.proofs.PlannedPremises.{planned_of}
 use Rattle.image_promises.proofs.Facts.{PlanLaws, stack_in, stack_size_is, stack_least, monitor_in, monitor_size_is, stack_apart}
 use Rattle.base_laws.proofs.Powers.{multiple_of_power}
 use Rattle.image_promises.specs.Parts.{MemoryIsLaid}
@@ -28,11 +29,11 @@ an_eighth x k l e =
 pub memory_is_laid : PlanLaws → MemoryIsLaid
 unfolding linked tables_of
 memory_is_laid law code w n f b is =
-    let stack = stack_in law w n f b is in
-    let size = stack_size_is law w n f b is in
-    let least = stack_least law w n f b is in
-    let monitor = monitor_in law w n f b is in
-    let apart = stack_apart law w n f b is in
+    let stack = stack_in law (planned_of is) in
+    let size = stack_size_is law (planned_of is) in
+    let least = stack_least law (planned_of is) in
+    let monitor = monitor_in law (planned_of is) in
+    let apart = stack_apart law (planned_of is) in
     let power = is.board.stack in
     let low = stack.0.0 in
     let high = stack.0.1 in
@@ -49,6 +50,6 @@ memory_is_laid law code w n f b is =
       eighth_aligned = eight.1;
       some = omega (arith, whole, size, least);
       fits = omega (arith, low, high, whole);
-      block_fits = let ms = monitor_size_is law w n f b is in omega (arith, mlow, mhigh, ms);
+      block_fits = let ms = monitor_size_is law (planned_of is) in omega (arith, mlow, mhigh, ms);
       apart = ⊎_elim (λ le. inl (omega (arith, le, mlow, low))) (λ le. inr (omega (arith, le, mlow, low, whole))) apart;
     }

@@ -7,11 +7,7 @@ use Rattle.std.proofs.lemmas.List.{get_or_past}
 use Rattle.std.proofs.lemmas.List.FromFn.{get_or-map-range_with_len, length-map-range_with_len}
 use Rattle.std.proofs.lemmas.Option.{slice_get-get_or}
 use Rattle.ir_model.specs.declared.object.ObjId.TheVariants.{Local}
-use Rattle.ir_model.specs.Plain.{PlainFirmware}
 use Rattle.ir_model.specs.Resolve.{resolve}
-use Rattle.plan_model.specs.declared.needs.Needs.{Needs}
-use Rattle.plan_model.specs.declared.graph.Final.{Final}
-use Rattle.plan_model.specs.declared.plan.Board.{Board}
 use Rattle.plan_model.specs.Boards.{slots_of}
 use Rattle.plan_model.specs.Lists.{numbers_below}
 use Rattle.plan_model.specs.Groups.{writes}
@@ -21,12 +17,15 @@ use Rattle.monitor_model.specs.declared.tables.CompRecord.{CompRecord}
 use Rattle.monitor_model.specs.Records.{compartment_at, nobody}
 use Rattle.image_model.specs.LinkedTables.{tables_of, comp_record}
 use Rattle.image_promises.specs.Planned.{planned_tables}
-use Rattle.plan.specs.PlannedFirmwares.{IsPlanned, plan}
+use Rattle.plan.specs.PlannedFirmwares.{plan}
+use Rattle.image_promises.proofs.PlannedPremises.{PlannedPremises, planned_of, final_graph_of}
 use Rattle.image_promises.proofs.Bits.{zero_bit, mask_was_told}
 use Rattle.image_promises.proofs.Masks.{mask_is}
 use Rattle.image_promises.specs.Needed.{MasksAreNeeded, PlannedMasksAreNeeded}
 
-module _ (w : PlainFirmware) (n : Needs) (f : Final) (b : Board) (ok : IsPlanned w n f b) where
+module _ (planned : PlannedPremises) where
+  open planned use {firmware as w, needs as n, final as f, board as b, is_planned as ok}
+
   mask_at : (c : ℕ) → c < f.groups.count → (compartment_at (planned_tables w n f b) c).mask ≡ kept_mask f f.masks c
   unfolding tables_of
   mask_at c m =
@@ -45,7 +44,7 @@ module _ (w : PlainFirmware) (n : Needs) (f : Final) (b : Board) (ok : IsPlanned
       inner lt true q =
           let kept : kept_mask f f.masks c ≡ get_or f.masks c 0 = ap (λ z. cond z (get_or f.masks c 0) 0) q in
           let all : lent n f.groups ≡ n.lendable = ap (λ z. cond z n.lendable []) q in
-          let m = mask_at c lt ∙ kept ∙ mask_is (resolve w) n f (slots_of b) ok.final c lt in
+          let m = mask_at c lt ∙ kept ∙ mask_is (final_graph_of planned) c lt in
           let r = mask_was_told n (λ x. writes n f.groups c (Local x.0 x.1)) k (sym (ap (λ z. bit_at z k) m) ∙ e) in
           (get_or n.lendable k (0, 0), ap (λ xs. slice_get xs k) all ∙ slice_get-get_or n.lendable k (0, 0) r.0, r.1)
       inner lt false q =
@@ -53,4 +52,4 @@ module _ (w : PlainFirmware) (n : Needs) (f : Final) (b : Board) (ok : IsPlanned
           absurd (zero_bit k (sym (ap (λ z. bit_at z k) (mask_at c lt ∙ kept)) ∙ e))
 
 pub planned_masks_are_needed : PlannedMasksAreNeeded
-planned_masks_are_needed w n f b ok = needed w n f b ok
+planned_masks_are_needed w n f b ok = needed (planned_of ok)

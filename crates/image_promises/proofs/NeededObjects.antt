@@ -10,16 +10,13 @@ use Rattle.std.proofs.lemmas.List.Quantifiers.{position-Some}
 use Rattle.std.proofs.lemmas.List.Sums.{sum_by-cons}
 use Rattle.base_laws.proofs.Lists.{any_kept}
 use Rattle.ir_model.specs.declared.object.ObjId.TheVariants.{Global, Periph, Local}
-use Rattle.ir_model.specs.Plain.{PlainFirmware}
 use Rattle.ir_model.specs.Resolve.{resolve}
 use Rattle.ir_model.specs.Resolved.{Program, window_at}
 use Rattle.ir_laws.specs.Limits.{WindowsLieApart, HasWindows}
-use Rattle.plan_model.specs.declared.needs.Needs.{Needs}
 use Rattle.plan_model.specs.declared.graph.Cover.{Cover}
 use Rattle.plan_model.specs.declared.graph.Graph.{Graph}
 use Rattle.plan_model.specs.declared.graph.DataRegion.{DataRegion}
 use Rattle.plan_model.specs.declared.graph.Final.{Final}
-use Rattle.plan_model.specs.declared.plan.Board.{Board}
 use Rattle.plan_model.specs.Boards.{slots_of}
 use Rattle.plan_model.specs.Lists.{has, numbers_below}
 use Rattle.plan_model.specs.Groups.{writes, uses}
@@ -30,7 +27,7 @@ use Rattle.plan_model.specs.Lending.{is_local}
 use Rattle.plan_model.specs.Merging.{next}
 use Rattle.plan_model.specs.Permission.{is_set, may_write}
 use Rattle.plan_model.specs.Regions.{region_at, no_region, global_size, size_of}
-use Rattle.plan.specs.PlannedFirmwares.{IsPlanned}
+use Rattle.image_promises.proofs.PlannedPremises.{PlannedPremises, planned_of, final_graph_of}
 use Rattle.image_promises.proofs.Lists.{any_index, each_map, each_passing, below_all}
 use Rattle.image_promises.proofs.CoverParts.{each_in_order}
 use Rattle.base_laws.proofs.Lists.{each_at}
@@ -68,7 +65,9 @@ one_of_kept {X} size test (x ∷ xs) d (suc k) lt t = by (test x) (one_of_kept s
     by true h = let s = sum_by-cons size x (filter test xs) in omega (arith, s, h)
     by false h = h
 
-module _ (w : PlainFirmware) (n : Needs) (f : Final) (b : Board) (ok : IsPlanned w n f b) where
+module _ (planned : PlannedPremises) where
+  open planned use {firmware as w, needs as n, final as f, board as b, is_planned as ok}
+
   abbrev p : Program
   p = resolve w
 
@@ -117,7 +116,7 @@ module _ (w : PlainFirmware) (n : Needs) (f : Final) (b : Board) (ok : IsPlanned
     where
       inner : c < f.groups.count → writes n f.groups c (Local g l) ≡ true
       inner lt =
-          let r = mask_was_told n (λ x. writes n f.groups c (Local x.0 x.1)) k (sym (ap (λ m. bit_at m k) (mask_is (resolve w) n f (slots_of b) ok.final c lt)) ∙ e) in
+          let r = mask_was_told n (λ x. writes n f.groups c (Local x.0 x.1)) k (sym (ap (λ m. bit_at m k) (mask_is (final_graph_of planned) c lt)) ∙ e) in
           let z = position-Some (is_local g l) n.lendable k (0, 0) at in
           let t = and_parts (nat_eq (get_or n.lendable k (0, 0)).0 g) (nat_eq (get_or n.lendable k (0, 0)).1 l) z.1 in
           let func = eqb-true _ _ t.0 in
@@ -193,4 +192,4 @@ module _ (w : PlainFirmware) (n : Needs) (f : Final) (b : Board) (ok : IsPlanned
     bounded = record { globals = globals; none = none; locals = locals; periphs = periphs }
 
 pub permissions_are_bounded : WindowsLieApart → PlannedPermissionsAreBounded
-permissions_are_bounded windows w n f b ok = bounded w n f b ok (windows w ok.typed)
+permissions_are_bounded windows w n f b ok = bounded (planned_of ok) (windows w ok.typed)

@@ -11,13 +11,9 @@ use Rattle.machine_protection.specs.Configured.{OpenEighthsAreHeld}
 use Rattle.machine_protection.specs.Laws.{RegionsHoldTheirBlocks, RegionsGiveTheirRights}
 use Rattle.base_laws.specs.Lists.{Each}
 use Rattle.ir_model.specs.declared.object.ObjId.TheVariants.{Global}
-use Rattle.ir_model.specs.Plain.{PlainFirmware}
 use Rattle.ir_model.specs.Resolve.{resolve}
 use Rattle.ir_model.specs.Resolved.{Program}
 use Rattle.ir_model.specs.State.{GlobalObject}
-use Rattle.plan_model.specs.declared.needs.Needs.{Needs}
-use Rattle.plan_model.specs.declared.graph.Final.{Final}
-use Rattle.plan_model.specs.declared.plan.Board.{Board}
 use Rattle.plan_model.specs.declared.plan.Plan.{Plan}
 use Rattle.plan_model.specs.Boards.{slots_of}
 use Rattle.plan_model.specs.Lists.{has, numbers_below}
@@ -34,7 +30,8 @@ use Rattle.monitor_model.specs.Records.{compartment_at, nobody}
 use Rattle.monitor_model.specs.Setting.{may_load, may_store, allows_stores}
 use Rattle.image_model.specs.LinkedTables.{tables_of, comp_record}
 use Rattle.image_promises.specs.Planned.{planned_tables, planned_image}
-use Rattle.plan.specs.PlannedFirmwares.{IsPlanned, plan, planned_sizes}
+use Rattle.plan.specs.PlannedFirmwares.{plan, planned_sizes}
+use Rattle.image_promises.proofs.PlannedPremises.{PlannedPremises, final_graph_of}
 use Rattle.image_promises.proofs.Bearing.{written_stores, borne_holds}
 use Rattle.image_promises.proofs.Compartments.{in_compartment}
 use Rattle.image_promises.proofs.Reach.{one_of, has_listed}
@@ -53,7 +50,9 @@ pub record SlotLaws : Type 0 where
   pub given : RegionsGiveTheirRights
   pub few : FitsSlots
 
-module _ (law : SlotLaws) (w : PlainFirmware) (n : Needs) (f : Final) (b : Board) (ok : IsPlanned w n f b) where
+module _ (law : SlotLaws) (planned : PlannedPremises) where
+  open planned use {firmware as w, needs as n, final as f, board as b, is_planned as ok}
+
   abbrev p : Program
   p = resolve w
 
@@ -61,7 +60,7 @@ module _ (law : SlotLaws) (w : PlainFirmware) (n : Needs) (f : Final) (b : Board
   l = plan w n f b
 
   abbrev place : ℕ → ℕ
-  place x = address law.globals w n f b ok x
+  place x = address law.globals planned x
 
   -- ---- a compartment's slots
 
@@ -96,7 +95,7 @@ module _ (law : SlotLaws) (w : PlainFirmware) (n : Needs) (f : Final) (b : Board
     region_stores writer =
         ap (λ gs. allows_stores (deciding gs a)) (slots_at c there)
         ∙ written_stores a (slot_uses p f l c) 4 (slots_of b)
-        (written_data law.globals law.held law.opened law.given w n f b ok c a r region it writer (regions_used f.regions c) (get_or f.covers c []) used_below
+        (written_data law.globals law.held law.opened law.given planned c a r region it writer (regions_used f.regions c) (get_or f.covers c []) used_below
         (used (or_left (has (region_at f.regions r).writers c) (has (region_at f.regions r).readers c) writer)))
         (uses_few c there) slots_are.1
 
@@ -107,13 +106,13 @@ module _ (law : SlotLaws) (w : PlainFirmware) (n : Needs) (f : Final) (b : Board
         (or_left (list_any (λ (g : Region). holds g a) (compartment_at (planned_tables w n f b) c).slots) _
         (ap (list_any (λ (g : Region). holds g a)) (slots_at c there)
         ∙ borne_holds a (slot_uses p f l c) 4 (slots_of b)
-        (borne_data law.globals law.held law.opened law.given w n f b ok c a r region it (regions_used f.regions c) (get_or f.covers c []) (used user))
+        (borne_data law.globals law.held law.opened law.given planned c a r region it (regions_used f.regions c) (get_or f.covers c []) (used user))
         (uses_few c there) slots_are.1))
 
   -- ---- a function's needs
 
   held_at : (x j r : ℕ) → j < global_size p x → r < length f.regions → has (region_at f.regions r).globals x ≡ true → HoldsAddress p f l (ForRegion r) (place x + j)
-  held_at x j r k h i = (law.globals.held p f (planned_sizes w n f b) b ok.board ok.fits (aligns law.globals w n f b ok) x j k).0 r (regions.region_is p n f (slots_of b) ok.final r x h i)
+  held_at x j r k h i = (law.globals.held p f (planned_sizes w n f b) b ok.board ok.fits (aligns law.globals planned) x j k).0 r (regions.region_is (final_graph_of planned) r x h i)
 
   pub stores : (g x j : ℕ) → g < length p.funcs → IsListed (need_of n g).written (GlobalObject x) → x < length p.globals → j < global_size p x
       → may_store (planned_tables w n f b) (compartment_of f.groups g) (place x + j) ≡ true
@@ -121,8 +120,8 @@ module _ (law : SlotLaws) (w : PlainFirmware) (n : Needs) (f : Final) (b : Board
       let c = compartment_of f.groups g in
       let inn = in_compartment p f.groups ok.groups g m in
       let writer : writes n f.groups c (Global x) ≡ true = one_of f.groups (λ y. has_object (need_of n y).written (Global x)) g inn.listed (has_listed (need_of n g).written (GlobalObject x) listed) in
-      let some = regions.in_region p n f (slots_of b) ok.final x there (regions.written_used p n f (slots_of b) ok.final x c inn.below writer) in
-      region_stores c inn.below some.0 some.1 (place x + j) (held_at x j some.0 k some.1 some.2) (regions.writers p n f (slots_of b) ok.final x c inn.below writer some.0 some.1 some.2)
+      let some = regions.in_region (final_graph_of planned) x there (regions.written_used (final_graph_of planned) x c inn.below writer) in
+      region_stores c inn.below some.0 some.1 (place x + j) (held_at x j some.0 k some.1 some.2) (regions.writers (final_graph_of planned) x c inn.below writer some.0 some.1 some.2)
 
   pub closed_loads : b.closed ≡ true → (g x j : ℕ) → g < length p.funcs → IsListed (need_of n g).read (GlobalObject x) → x < length p.globals → j < global_size p x
       → may_load (planned_image w n f b) (planned_tables w n f b) (compartment_of f.groups g) (place x + j) ≡ true
@@ -131,6 +130,6 @@ module _ (law : SlotLaws) (w : PlainFirmware) (n : Needs) (f : Final) (b : Board
       let inn = in_compartment p f.groups ok.groups g m in
       let kind : n.closed ≡ true = ok.needs.kind ∙ closed in
       let reader : reads n f.groups c (Global x) ≡ true = one_of f.groups (λ y. has_object (need_of n y).read (Global x)) g inn.listed (has_listed (need_of n g).read (GlobalObject x) listed) in
-      let some = regions.in_region p n f (slots_of b) ok.final x there (regions.read_used p n f (slots_of b) ok.final x c kind inn.below reader) in
+      let some = regions.in_region (final_graph_of planned) x there (regions.read_used (final_graph_of planned) x c kind inn.below reader) in
       region_loads c inn.below some.0 some.1 (place x + j) (held_at x j some.0 k some.1 some.2)
-      (or_right (has (region_at f.regions some.0).writers c) (has (region_at f.regions some.0).readers c) (regions.readers p n f (slots_of b) ok.final x c kind inn.below reader some.0 some.1 some.2))
+      (or_right (has (region_at f.regions some.0).writers c) (has (region_at f.regions some.0).readers c) (regions.readers (final_graph_of planned) x c kind inn.below reader some.0 some.1 some.2))

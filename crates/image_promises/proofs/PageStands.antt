@@ -8,6 +8,7 @@ use Rattle.monitor_program.specs.CodeSize.{CodeFits, PagesAreFull}
 use Rattle.monitor_program.specs.Page.{page}
 use Rattle.image_promises.specs.Planned.{planned_tables, planned_image}
 use Rattle.image_promises.specs.Laws.{FlashReadsBack}
+use Rattle.image_promises.proofs.PlannedPremises.{planned_of}
 use Rattle.image_promises.proofs.Facts.{PlanLaws, length_is, flash_least}
 use Rattle.image_promises.proofs.Passing.{eq_yes, must_yes, then_yes}
 use Rattle.image_promises.specs.CodeInFlash.{PageIsExact, CodePasses}
@@ -29,7 +30,7 @@ page_is_exact has law fits w n f b ok k l =
 pub code_passes : PlanLaws → FlashReadsBack → ShowsItsLength → CodeFits → PagesAreFull → CodePasses
 code_passes plans has law fits full w n f b ok =
     let t : Tables = planned_tables w n f b in
-    let m = length_is plans w n f b ok in
-    let z = flash_least plans w n f b ok in
+    let m = length_is plans (planned_of ok) in
+    let z = flash_least plans (planned_of ok) in
     let e = full t in
     no_difference (page t) (planned_image w n f b).flash t.base (omega (arith, m, z, e)) (λ k l. page_is_exact has law fits w n f b ok k (omega (arith, l, e)))

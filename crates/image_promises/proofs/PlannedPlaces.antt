@@ -5,14 +5,10 @@ use Rattle.std.proofs.lemmas.Bool.{cases_lt}
 use Rattle.std.proofs.lemmas.List.{get_or-map, get_or_past, length-map}
 use Rattle.std.proofs.lemmas.List.FromFn.{get_or-map-range_with_len, length-map-range_with_len}
 use mathlib.Core.Logic.{⊎_elim}
-use Rattle.ir_model.specs.Plain.{PlainFirmware}
 use Rattle.ir_model.specs.Resolved.{Program, NumberedWindow, func_at, no_window}
 use Rattle.ir_model.specs.Resolve.{resolve}
 use Rattle.ir_laws.specs.Limits.{WindowsLieApart}
 use Rattle.plan_model.specs.declared.needs.SiteNeed.{SiteNeed}
-use Rattle.plan_model.specs.declared.needs.Needs.{Needs}
-use Rattle.plan_model.specs.declared.graph.Final.{Final}
-use Rattle.plan_model.specs.declared.plan.Board.{Board}
 use Rattle.plan_model.specs.declared.plan.Plan.{Plan}
 use Rattle.plan_model.specs.Crossing.{crossing_sites, stands_at, site_number}
 use Rattle.plan_model.specs.Lending.{lent, is_local, lend_number, lend_numbers_in}
@@ -25,8 +21,9 @@ use Rattle.code_model.specs.Planned.{call_sites, code_groups, code_places}
 use Rattle.code_model.specs.Laws.{SitesAgree}
 use Rattle.code_lower_laws.specs.Fitting.{TypedFunctionsFit}
 use Rattle.monitor_program.specs.TheCode.{monitor_code}
-use Rattle.plan.specs.PlannedFirmwares.{IsPlanned, plan}
+use Rattle.plan.specs.PlannedFirmwares.{plan}
 use Rattle.plan_model.proofs.KeptLimits.{few}
+use Rattle.image_promises.proofs.PlannedPremises.{PlannedPremises}
 use Rattle.image_promises.proofs.ReadBack.{ReadLaws}
 use Rattle.image_promises.specs.Parts.{CodeIsPlaced}
 use Rattle.image_promises.proofs.EntryPlaces.{entry_in, entry_aligned}
@@ -44,7 +41,9 @@ mapped_below limit g n x some h = ⊎_elim inner outer (cases_lt x n)
     outer : n ≤ x → get_or (map g (range_with_len 0 n)) x 0 < limit
     outer l = let m = length-map-range_with_len g 0 n in subst (λ y. y < limit) (sym (get_or_past (map g (range_with_len 0 n)) x 0 (omega (arith, m, l)))) some
 
-module _ (law : ReadLaws) (placed : CodeIsPlaced) (fits : TypedFunctionsFit) (agree : SitesAgree) (windows : WindowsLieApart) (w : PlainFirmware) (n : Needs) (f : Final) (b : Board) (ok : IsPlanned w n f b) where
+module _ (law : ReadLaws) (placed : CodeIsPlaced) (fits : TypedFunctionsFit) (agree : SitesAgree) (windows : WindowsLieApart) (planned : PlannedPremises) where
+  open planned use {firmware as w, needs as n, final as f, board as b, is_planned as ok}
+
   abbrev p : Program
   p = resolve w
 
@@ -84,11 +83,11 @@ module _ (law : ReadLaws) (placed : CodeIsPlaced) (fits : TypedFunctionsFit) (ag
 
   pub places_fit : (h : ℕ) → h < length p.funcs → PlacesFit b.flash_base (b.flash_base + 0x100000) (length p.funcs) (places_of p groups places h)
   places_fit h there = record {
-    globals = λ x. mapped_below (2 ^ 32) (global_address p f l) (length p.globals) x (omega arith) (λ m. global_below law.plans w n f b ok x);
+    globals = λ x. mapped_below (2 ^ 32) (global_address p f l) (length p.globals) x (omega arith) (λ m. global_below law.plans planned x);
     windows = window_below;
-    from = λ g m. let e = entry_is g h m in let r = (entry_in law placed monitor_code w n f b ok g m).from in omega (arith, e, r);
-    to = λ g m. let e = entry_is g h m in let r = (entry_in law placed monitor_code w n f b ok g m).to in omega (arith, e, r);
-    even = λ g m. let e = entry_is g h m in let r = entry_aligned law placed monitor_code w n f b ok g in omega (arith, e, r);
+    from = λ g m. let e = entry_is g h m in let r = (entry_in law placed monitor_code planned g m).from in omega (arith, e, r);
+    to = λ g m. let e = entry_is g h m in let r = (entry_in law placed monitor_code planned g m).to in omega (arith, e, r);
+    even = λ g m. let e = entry_is g h m in let r = entry_aligned law placed monitor_code planned g in omega (arith, e, r);
     sites = λ i k s e. site_below h i k s there e;
   }
 

@@ -11,7 +11,6 @@ use Rattle.std.proofs.lemmas.List.Folds.{list_any_at}
 use Rattle.std.specs.List.{position_or_len}
 use Rattle.std.proofs.lemmas.List.Sums.{fails_before_first, passes_at_first}
 use Rattle.ir_model.specs.declared.object.ObjId.TheVariants.{Global, Local}
-use Rattle.ir_model.specs.Plain.{PlainFirmware}
 use Rattle.ir_model.specs.Resolve.{resolve}
 use Rattle.ir_model.specs.Resolved.{Program, here, Here, Does, Ends, Const, Move, Bin, Cmp, Addr, FAddr, Elem, Field, Load, Store, Call, ICall}
 use Rattle.ir_model.specs.State.{Object, GlobalObject, PeriphObject, LocalObject, FunctionObject, StepEffect, Nothing, Loaded, Stored, Called}
@@ -20,8 +19,6 @@ use Rattle.ir_model.specs.Runs.{source_after}
 use Rattle.ir_laws.specs.Sets.{ObjectSets, Node, ReadsAt, WritesAt, IsRead, IsWritten}
 use Rattle.plan_model.specs.declared.needs.Needs.{Needs}
 use Rattle.plan_model.specs.declared.graph.DataRegion.{DataRegion}
-use Rattle.plan_model.specs.declared.graph.Final.{Final}
-use Rattle.plan_model.specs.declared.plan.Board.{Board}
 use Rattle.plan_model.specs.Boards.{slots_of}
 use Rattle.plan_model.specs.Covers.{is_inside}
 use Rattle.plan_model.specs.Groups.{compartment_of, writes, reads, uses}
@@ -35,7 +32,7 @@ use Rattle.plan_model.specs.Regions.{region_at, no_region, is_user}
 use Rattle.plan_model.proofs.KeptLimits as limits
 use Rattle.need_laws.specs.Laws.{IsThere, NoStepLeavesNeeds}
 use Rattle.need_laws.specs.Reached.{IsListed, ListsPeriph, IsInNeeds}
-use Rattle.plan.specs.PlannedFirmwares.{IsPlanned}
+use Rattle.image_promises.proofs.PlannedPremises.{PlannedPremises, planned_of, final_graph_of}
 use Rattle.image_promises.proofs.Bits.{mask_bit}
 use Rattle.image_promises.proofs.Compartments.{in_compartment}
 use Rattle.image_promises.proofs.FinalRegions as regions
@@ -103,7 +100,9 @@ bit_there n does h l few there t =
         let p = and_parts (nat_eq x.0 h) (nat_eq x.1 l) z in
         ap₂ (λ (a c : ℕ). does (a, c)) (eqb-true x.0 h p.0) (eqb-true x.1 l p.1)
 
-module _ (w : PlainFirmware) (n : Needs) (f : Final) (b : Board) (ok : IsPlanned w n f b) (many : 1 < f.groups.count) (g : ℕ) (below : g < length (resolve w).funcs) where
+module _ (planned : PlannedPremises) (many : 1 < planned.final.groups.count) (g : ℕ) (below : g < length (resolve planned.firmware).funcs) where
+  open planned use {firmware as w, needs as n, final as f, board as b, is_planned as ok}
+
   abbrev p : Program
   p = resolve w
 
@@ -132,7 +131,7 @@ module _ (w : PlainFirmware) (n : Needs) (f : Final) (b : Board) (ok : IsPlanned
   -- ---- peripherals
 
   reached : (q : ℕ) → q < length p.periphs → uses n f.groups c q ≡ true → list_any (is_inside (cover_of p q)) (get_or f.covers c []) ≡ true
-  reached q lt u = covered p n f (slots_of b) ok.final c q c_below lt u
+  reached q lt u = covered (final_graph_of planned) c q c_below lt u
 
   used : (q : ℕ) → Contains (need_of n g).periphs q → uses n f.groups c q ≡ true
   used q h = one_of f.groups (λ y. has (need_of n y).periphs q) g listed (periph_has (need_of n g).periphs q h)
@@ -150,9 +149,9 @@ module _ (w : PlainFirmware) (n : Needs) (f : Final) (b : Board) (ok : IsPlanned
   stores (GlobalObject x) i q =
       let lt : x < length p.globals = there (GlobalObject x) (written (GlobalObject x) i) in
       let writer : writes n f.groups c (Global x) ≡ true = one_of f.groups (λ y. has_object (need_of n y).written (Global x)) g listed (has_listed (need_of n g).written (GlobalObject x) i) in
-      let some = regions.in_region p n f (slots_of b) ok.final x lt (regions.written_used p n f (slots_of b) ok.final x c c_below writer) in
+      let some = regions.in_region (final_graph_of planned) x lt (regions.written_used (final_graph_of planned) x c c_below writer) in
       list_any_at (λ (r : DataRegion). has r.writers c && has r.globals x) f.regions some.0 no_region some.1
-      (both (has (region_at f.regions some.0).writers c) (has (region_at f.regions some.0).globals x) (regions.writers p n f (slots_of b) ok.final x c c_below writer some.0 some.1 some.2) some.2)
+      (both (has (region_at f.regions some.0).writers c) (has (region_at f.regions some.0).globals x) (regions.writers (final_graph_of planned) x c c_below writer some.0 some.1 some.2) some.2)
   stores (PeriphObject q) i h = reached q (there (PeriphObject q) (written (PeriphObject q) i)) (used q h)
   stores (LocalObject h l) i q = ⊎_elim (λ e. inl e) (λ d. inr (lent_bit d)) (cases_eq h g)
     where
@@ -161,7 +160,7 @@ module _ (w : PlainFirmware) (n : Needs) (f : Final) (b : Board) (ok : IsPlanned
           let x = written (LocalObject h l) i in
           let lendable = ok.needs.lendable.all (h, l) (record { there = there (LocalObject h l) x; cause = OthersWrite g (λ e. d (sym e)) x }) in
           let writer : writes n f.groups c (Local h l) ≡ true = one_of f.groups (λ y. has_object (need_of n y).written (Local h l)) g listed (has_listed (need_of n g).written (LocalObject h l) i) in
-          ap (λ m. is_set m (position (is_local h l) n.lendable)) (mask_is (resolve w) n f (slots_of b) ok.final c c_below) ∙ bit_there n (λ y. writes n f.groups c (Local y.0 y.1)) h l few lendable writer
+          ap (λ m. is_set m (position (is_local h l) n.lendable)) (mask_is (final_graph_of planned) c c_below) ∙ bit_there n (λ y. writes n f.groups c (Local y.0 y.1)) h l few lendable writer
   stores (FunctionObject h) i q = subst (λ (x : Object). Rattle.plan_model.specs.Needs.IsWritable p x) i.2 ((ok.needs.funcs g below).written.each i.0 i.1).0
 
   -- ---- loads, on a closed board
@@ -177,10 +176,10 @@ module _ (w : PlainFirmware) (n : Needs) (f : Final) (b : Board) (ok : IsPlanned
   loads closed (GlobalObject x) i q =
       let lt : x < length p.globals = read_there (GlobalObject x) (read (GlobalObject x) i) in
       let reader : reads n f.groups c (Global x) ≡ true = one_of f.groups (λ y. has_object (need_of n y).read (Global x)) g listed (has_listed (need_of n g).read (GlobalObject x) i) in
-      let some = regions.in_region p n f (slots_of b) ok.final x lt (regions.read_used p n f (slots_of b) ok.final x c closed c_below reader) in
+      let some = regions.in_region (final_graph_of planned) x lt (regions.read_used (final_graph_of planned) x c closed c_below reader) in
       list_any_at (λ (r : DataRegion). is_user c r && has r.globals x) f.regions some.0 no_region some.1
       (both (is_user c (region_at f.regions some.0)) (has (region_at f.regions some.0).globals x)
-      (or_right (has (region_at f.regions some.0).writers c) (has (region_at f.regions some.0).readers c) (regions.readers p n f (slots_of b) ok.final x c closed c_below reader some.0 some.1 some.2)) some.2)
+      (or_right (has (region_at f.regions some.0).writers c) (has (region_at f.regions some.0).readers c) (regions.readers (final_graph_of planned) x c closed c_below reader some.0 some.1 some.2)) some.2)
   loads closed (PeriphObject q) i h = reached q (read_there (PeriphObject q) (read (PeriphObject q) i)) (used q h)
   loads closed (LocalObject h l) i q = ⊎_elim (λ e. inl e) (λ d. inr (lent_bit d)) (cases_eq h g)
     where
@@ -200,17 +199,19 @@ module _ (w : PlainFirmware) (n : Needs) (f : Final) (b : Board) (ok : IsPlanned
 none_listed : (o : Object) → IsListed [] o → ⊥
 none_listed o i = let lt = i.1.1 in absurd (omega (arith, lt))
 
-module _ (w : PlainFirmware) (n : Needs) (f : Final) (b : Board) (ok : IsPlanned w n f b) (many : 1 < f.groups.count) where
+module _ (planned : PlannedPremises) (many : 1 < planned.final.groups.count) where
+  open planned use {firmware as w, needs as n, final as f, is_planned as ok}
+
   past : (g : ℕ) → length (resolve w).funcs ≤ g → need_of n g ≡ no_need
   past g le = get_or_past n.funcs g no_need (let e = ok.needs.count in omega (arith, e, le))
 
   allowed : (d : StepEffect) → IsInNeeds n d → IsInPolicy w n f d
   allowed Nothing x = tt
-  allowed (Loaded g o) x = λ closed. ⊎_elim (λ lt. loads w n f b ok many g lt closed o x.0 x.1) (λ le. absurd (none_listed o (subst (λ m. IsListed m.read o) (past g le) x.0))) (cases_lt g (length (resolve w).funcs))
-  allowed (Stored g o) x = ⊎_elim (λ lt. stores w n f b ok many g lt o x.0 x.1) (λ le. absurd (none_listed o (subst (λ m. IsListed m.written o) (past g le) x.0))) (cases_lt g (length (resolve w).funcs))
+  allowed (Loaded g o) x = λ closed. ⊎_elim (λ lt. loads planned many g lt closed o x.0 x.1) (λ le. absurd (none_listed o (subst (λ m. IsListed m.read o) (past g le) x.0))) (cases_lt g (length (resolve w).funcs))
+  allowed (Stored g o) x = ⊎_elim (λ lt. stores planned many g lt o x.0 x.1) (λ le. absurd (none_listed o (subst (λ m. IsListed m.written o) (past g le) x.0))) (cases_lt g (length (resolve w).funcs))
   allowed (Called g k j h) x = x.0
 
 pub stay_in_policy : NoStepLeavesNeeds → PlannedRunsStayInPolicy
 stay_in_policy law w n f b ok compartments queues steps many =
-    allowed w n f b ok many (source_turn (resolve w) compartments (source_after (resolve w) compartments queues steps)).did
+    allowed (planned_of ok) many (source_turn (resolve w) compartments (source_after (resolve w) compartments queues steps)).did
     (law w ok.sets b.closed n ok.typed ok.within ok.are_sets.closed ok.needs compartments queues steps)

@@ -4,12 +4,9 @@ use Rattle.std.specs.Prelude.{unwrap_or}
 use Rattle.std.specs.List.{range_with_len}
 use Rattle.base_laws.specs.Lists.{Each}
 use Rattle.base_ranges.specs.Ranges.{IsInside, AreApart}
-use Rattle.ir_model.specs.Plain.{PlainFirmware}
 use Rattle.ir_model.specs.Resolved.{Program}
 use Rattle.ir_model.specs.Resolve.{resolve}
-use Rattle.plan_model.specs.declared.needs.Needs.{Needs}
 use Rattle.plan_model.specs.declared.graph.Final.{Final}
-use Rattle.plan_model.specs.declared.plan.Board.{Board}
 use Rattle.plan_model.specs.declared.plan.Plan.{Plan}
 use Rattle.plan_model.specs.Lists.{numbers_below}
 use Rattle.plan_model.specs.Boards.{slots_of}
@@ -24,7 +21,8 @@ use Rattle.monitor_model.specs.declared.tables.InitRecord.{InitRecord}
 use Rattle.monitor_model.specs.Promises.{RangesAreApart}
 use Rattle.image_model.specs.LinkedTables.{Filled, filled, filled_unwritten, init_records, words_begin, tables_of}
 use Rattle.image_promises.specs.Planned.{planned_tables}
-use Rattle.plan.specs.PlannedFirmwares.{IsPlanned, plan}
+use Rattle.plan.specs.PlannedFirmwares.{plan}
+use Rattle.image_promises.proofs.PlannedPremises.{PlannedPremises}
 use Rattle.image_promises.proofs.Facts.{PlanLaws}
 use Rattle.plan_layout_laws.proofs.PowersOfTwo.{block_positive}
 use Rattle.image_promises.proofs.Passing.{apart_from}
@@ -115,7 +113,9 @@ uses_are f = are_uses f 0 (length f.regions) (unwritten_uses f.unwritten) (omega
 
 -- ---- their ranges
 
-module _ (law : PlanLaws) (w : PlainFirmware) (n : Needs) (f : Final) (b : Board) (ok : IsPlanned w n f b) where
+module _ (law : PlanLaws) (planned : PlannedPremises) where
+  open planned use {firmware as w, needs as n, final as f, board as b, is_planned as ok}
+
   abbrev p : Program
   p = resolve w
 

@@ -6,12 +6,8 @@ use Rattle.std.proofs.lemmas.List.{length-replicate}
 use mathlib.Core.Logic.{⊎_elim}
 use Rattle.base_words.specs.Bytes.{read, write, write_all, cut, AreBytes}
 use Rattle.base_words.proofs.Bytes.{length-write_all, byte_apart_all, read_alike, read_all, AreBytes-write}
-use Rattle.ir_model.specs.Plain.{PlainFirmware}
 use Rattle.ir_model.specs.Resolved.{Program}
 use Rattle.ir_model.specs.Resolve.{resolve}
-use Rattle.plan_model.specs.declared.needs.Needs.{Needs}
-use Rattle.plan_model.specs.declared.graph.Final.{Final}
-use Rattle.plan_model.specs.declared.plan.Board.{Board}
 use Rattle.plan_model.specs.declared.plan.Sizes.{Sizes}
 use Rattle.plan_model.specs.declared.plan.Plan.{Plan}
 use Rattle.plan_model.specs.Placement.{compartment_spot}
@@ -27,7 +23,8 @@ use Rattle.image_model.specs.Laws.{CountsAgree}
 use Rattle.image_model.specs.LinkedTables.{tables_of}
 use Rattle.image_model.specs.LinkedImage.{flash_size, erased, with_tables, linked}
 use Rattle.image_promises.specs.Planned.{planned_tables, planned_image}
-use Rattle.plan.specs.PlannedFirmwares.{IsPlanned, planned_sizes, plan}
+use Rattle.plan.specs.PlannedFirmwares.{planned_sizes, plan}
+use Rattle.image_promises.proofs.PlannedPremises.{PlannedPremises}
 use Rattle.image_promises.proofs.FlashBack.{IsOff, puts, puts_off, puts_in, in_all}
 use Rattle.image_promises.proofs.FlashParts.{code_ends, tables_end, code_count, code_size_is, tables_size_is, size_is}
 use Rattle.image_promises.proofs.AreaSize.{area_size}
@@ -59,7 +56,9 @@ pub record ReadLaws : Type 0 where
   pub counts : CountsAgree
   pub pages : PagesAreFull
 
-module _ (law : ReadLaws) (w : PlainFirmware) (n : Needs) (f : Final) (b : Board) (ok : IsPlanned w n f b) where
+module _ (law : ReadLaws) (planned : PlannedPremises) where
+  open planned use {firmware as w, needs as n, final as f, board as b}
+
   abbrev p : Program
   p = resolve w
 
@@ -106,15 +105,15 @@ module _ (law : ReadLaws) (w : PlainFirmware) (n : Needs) (f : Final) (b : Board
   -- the code of a compartment has room in its block
   pub code_fits : (c : ℕ) → c < f.groups.count → length (planned_code p n f l c) ≤ (compartment_spot l c).size
   code_fits c lt =
-      let m = code_blocks_count law.plans w n f b ok in
+      let m = code_blocks_count law.plans planned in
       let k = code_length c lt in
       let g : get_or s.code c 0 ≡ compartment_size p (code_groups p n f.groups) c = get_or-map-range_with_len (compartment_size p (code_groups p n f.groups)) 0 f.groups.count c c 0 lt (omega arith) in
-      let h = (code_block_is law.plans w n f b ok c (omega (arith, lt, m))).1 in
+      let h = (code_block_is law.plans planned c (omega (arith, lt, m))).1 in
       let z = code_size_is p f s b c (omega (arith, lt, m)) in
       omega (arith, k, g, h, z)
 
   listed : (c : ℕ) → c < f.groups.count → c < length l.code
-  listed c lt = let m = code_blocks_count law.plans w n f b ok in let e = code_count p f s b in omega (arith, lt, m, e)
+  listed c lt = let m = code_blocks_count law.plans planned in let e = code_count p f s b in omega (arith, lt, m, e)
 
   -- the tables' block has what was written there first
   tables_byte : (j : ℕ) → j < l.tables.size → slice_index flash j ≡ slice_index tabled j
@@ -124,19 +123,19 @@ module _ (law : ReadLaws) (w : PlainFirmware) (n : Needs) (f : Final) (b : Board
     where
       off : (c : ℕ) → c < length l.code → IsOff (at c) (length (planned_code p n f l c)) j
       off c v =
-          let x = laid law.plans w n f b ok in
+          let x = laid law.plans planned in
           let first = x.vectors in
           let from = (x.inside c v).0 in
           ⊎_elim (λ e. inl (omega (arith, e, first, lt, from))) (λ e. inl (absurd (empty c v e))) (x.tables_apart c v)
         where
           empty : (c : ℕ) → c < length l.code → (compartment_spot l c).base + (compartment_spot l c).size ≤ l.tables.base → ⊥
           empty c v e =
-              let x = laid law.plans w n f b ok in
+              let x = laid law.plans planned in
               let first = x.vectors in
               let from = (x.inside c v).0 in
               let m = code_count p f s b in
               let z = code_size_is p f s b c (omega (arith, v, m)) in
-              let q = (code_block_is law.plans w n f b ok c (omega (arith, v, m))).0 in
+              let q = (code_block_is law.plans planned c (omega (arith, v, m))).0 in
               let r = q.3 in
               let k = Rattle.std.proofs.Common.pow_pos q.0 in
               omega (arith, e, first, from, z, r, k)
@@ -145,12 +144,12 @@ module _ (law : ReadLaws) (w : PlainFirmware) (n : Needs) (f : Final) (b : Board
 
   base_is : t.base ≡ b.flash_base
   unfolding tables_of
-  base_is = (laid law.plans w n f b ok).vectors
+  base_is = (laid law.plans planned).vectors
 
   area_fits : 4096 + 4 * length (area t) ≤ l.tables.size
   area_fits =
       let a = area_size law.counts p n f l b in
-      let h = (tables_block_is law.plans w n f b ok).1 in
+      let h = (tables_block_is law.plans planned).1 in
       let e = tables_size_is p f s b in
       omega (arith, a, h, e)
 
@@ -193,7 +192,7 @@ module _ (law : ReadLaws) (w : PlainFirmware) (n : Needs) (f : Final) (b : Board
 
   pub code_byte : (c k : ℕ) → c < f.groups.count → k < length (planned_code p n f l c) → slice_index flash (at c + k) ≡ slice_index (planned_code p n f l c) k % 256
   code_byte c k lt u =
-      let x = laid law.plans w n f b ok in
+      let x = laid law.plans planned in
       let from = (x.inside c (listed c lt)).0 in
       let h = code_fits c lt in
       let room = ends c (listed c lt) in
@@ -205,7 +204,7 @@ module _ (law : ReadLaws) (w : PlainFirmware) (n : Needs) (f : Final) (b : Board
     where
       ends : (c : ℕ) → c < length l.code → (compartment_spot l c).base - b.flash_base + (compartment_spot l c).size ≤ flash_size l
       ends c v =
-          let from = ((laid law.plans w n f b ok).inside c v).0 in
+          let from = ((laid law.plans planned).inside c v).0 in
           let m = code_count p f s b in
           let e = code_ends p f s b c (omega (arith, v, m)) in
           let z = size_is p f s b in
@@ -213,7 +212,7 @@ module _ (law : ReadLaws) (w : PlainFirmware) (n : Needs) (f : Final) (b : Board
 
       off : (d : ℕ) → d ≢ c → d < f.groups.count → IsOff (at d) (length (planned_code p n f l d)) (at c + k)
       off d ne v =
-          let x = laid law.plans w n f b ok in
+          let x = laid law.plans planned in
           let h = code_fits c lt in
           let g = code_fits d v in
           let from = (x.inside c (listed c lt)).0 in

@@ -12,9 +12,10 @@ use Rattle.plan_model.specs.Choices.{Pair}
 use Rattle.plan_model.specs.Regions.{no_region, region_at, is_user}
 use Rattle.plan_model.specs.InitialGraph.{Users, users_of, has_users, same_users, kinds_of_users, region_for, data_regions, compartments_that, initial_graph}
 use Rattle.plan_model.specs.Merging.{joined_region, with_joined_region, next}
-use Rattle.plan_model.specs.FinalGraph.{Merges, stays, joins, IsFinal}
+use Rattle.plan_model.specs.FinalGraph.{Merges, stays, joins}
 use Rattle.plan_model.specs.Groups.{reads}
 use Rattle.ir_model.specs.declared.object.ObjId.TheVariants.{Global}
+use Rattle.image_promises.proofs.FinalGraphs.{FinalGraph}
 use Rattle.image_promises.proofs.Kept.{by_next}
 use Rattle.image_promises.proofs.KeptItems.{each_filter, each_distinct, each_set, each_remove, each_or}
 use Rattle.image_promises.proofs.Lists.{each_map}
@@ -52,7 +53,9 @@ unread_all : (p : Program) (slots : ℕ) (g h : Graph) → Merges p slots g h �
 unread_all p slots g h stays a = a
 unread_all p slots g k (joins {h = h} e m) a = unread_all p slots h k m (unread_next p slots g h e a)
 
-module _ (p : Program) (n : Needs) (f : Final) (slots : ℕ) (final : IsFinal p n f.groups slots f) where
+module _ (graph : FinalGraph) where
+  open graph use {program as p, needs as n, final as f, slots, is_final as final}
+
   pub unread : n.closed ≡ false → (r : ℕ) → (region_at f.regions r).readers ≡ []
   unfolding initial_graph
   unread open_board r =

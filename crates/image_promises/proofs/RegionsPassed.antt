@@ -8,14 +8,10 @@ use Rattle.machine_devices.specs.declared.image.Image.{Image}
 use Rattle.base_ranges.specs.Ranges.{IsPowerBetween, is_inside}
 use Rattle.machine_protection.specs.declared.words.Rights.TheVariants.{Background, Code, Ram}
 use Rattle.machine_protection.specs.RegionWords.{region_of}
-use Rattle.ir_model.specs.Plain.{PlainFirmware}
 use Rattle.ir_model.specs.Resolved.{Program}
 use Rattle.ir_model.specs.Resolve.{resolve}
 use Rattle.ir_laws.specs.Limits.{WindowsLieApart}
-use Rattle.plan_model.specs.declared.needs.Needs.{Needs}
 use Rattle.plan_model.specs.declared.graph.Cover.{Cover}
-use Rattle.plan_model.specs.declared.graph.Final.{Final}
-use Rattle.plan_model.specs.declared.plan.Board.{Board}
 use Rattle.plan_model.specs.declared.plan.Sizes.{Sizes}
 use Rattle.plan_model.specs.declared.plan.Plan.{Plan}
 use Rattle.plan_model.specs.declared.plan.Spot.{Spot}
@@ -33,7 +29,8 @@ use Rattle.monitor_model.specs.Checks.{regions_fail}
 use Rattle.image_model.specs.LinkedTables.{comp_record, tables_of}
 use Rattle.image_model.specs.LinkedImage.{linked}
 use Rattle.image_promises.specs.Planned.{planned_tables, planned_image}
-use Rattle.plan.specs.PlannedFirmwares.{IsPlanned, planned_sizes, plan}
+use Rattle.plan.specs.PlannedFirmwares.{planned_sizes, plan}
+use Rattle.image_promises.proofs.PlannedPremises.{PlannedPremises, planned_of, final_graph_of}
 use Rattle.image_promises.proofs.Facts.{PlanLaws, laid, length_is, needed_most, code_blocks_count, code_block_is, code_at_most}
 use Rattle.image_promises.proofs.FlashParts.{code_count, code_size_is, code_ends}
 use Rattle.image_promises.proofs.Passing.{and_yes, lt_yes, eq_yes, inside_yes, each_yes}
@@ -85,7 +82,9 @@ each_number P f lo (suc n) h = (h lo (omega arith), each_number P f (lo + 1) n (
 
 -- ---- a planned image
 
-module _ (law : PlanLaws) (apart : WindowsLieApart) (w : PlainFirmware) (n : Needs) (f : Final) (b : Board) (is : IsPlanned w n f b) where
+module _ (law : PlanLaws) (apart : WindowsLieApart) (planned : PlannedPremises) where
+  open planned use {firmware as w, needs as n, final as f, board as b, is_planned as is}
+
   abbrev p : Program
   p = resolve w
 
@@ -112,21 +111,21 @@ module _ (law : PlanLaws) (apart : WindowsLieApart) (w : PlainFirmware) (n : Nee
   -- the code of a compartment
   code_passes : (c : ℕ) → c < f.groups.count → is_code i (code_region l c) ≡ true
   code_passes c lt =
-      let counted = code_blocks_count law w n f b is in
+      let counted = code_blocks_count law planned in
       let there : c < length s.code = omega (arith, lt, counted) in
       let count = code_count p f s b in
       let spot : Spot = compartment_spot l c in
       let size : spot.size ≡ block (get_or s.code c 0) = code_size_is p f s b c there in
-      let most = code_at_most law w n f b is c there in
-      let needed = needed_most law w n f b is in
+      let most = code_at_most law planned c there in
+      let needed = needed_most law planned in
       let power : IsPowerBetween 5 31 spot.size =
-      subst (IsPowerBetween 5 31) (sym size) (below_top (block (get_or s.code c 0)) (code_block_is law w n f b is c there).0 (omega (arith, most, needed))) in
-      let flash = laid law w n f b is in
+      subst (IsPowerBetween 5 31) (sym size) (below_top (block (get_or s.code c 0)) (code_block_is law planned c there).0 (omega (arith, most, needed))) in
+      let flash = laid law planned in
       let listed : c < length l.code = omega (arith, there, count) in
       let low = (flash.inside c listed).0 in
       let high = code_ends p f s b c there in
       let first = flash_first in
-      let long = length_is law w n f b is in
+      let long = length_is law planned in
       let made = is_made 2 spot.base spot.size 0 Code (lit< tt) power (flash.aligned c listed) (lit< tt) in
       and_yes made.has
       (ap₂ (λ x y. is_inside x y i.flash_base (length i.flash)) made.base_is made.size_is
@@ -144,16 +143,16 @@ module _ (law : PlanLaws) (apart : WindowsLieApart) (w : PlainFirmware) (n : Nee
 
       by : (writer : Bool) → has (region_at f.regions r).writers c ≡ writer → is_slot i t m (region_of m spot.base spot.size (subregions_out spot.size bytes) (cond writer Ram Background)) ≡ true
       by true e =
-          written_passes i t m spot.base spot.size bytes few (ranges.power law w n f b is r lt) (ranges.aligned law w n f b is r lt) (holds_data law w n f b is r lt)
+          written_passes i t m spot.base spot.size bytes few (ranges.power law planned r lt) (ranges.aligned law planned r lt) (holds_data law planned r lt)
       by false e =
-          read_passes i t m spot.base spot.size bytes few (ranges.power law w n f b is r lt) (ranges.aligned law w n f b is r lt) (holds_data law w n f b is r lt)
-          (closed_is ∙ closed_for p n f (slots_of b) is.final r c user e)
+          read_passes i t m spot.base spot.size bytes few (ranges.power law planned r lt) (ranges.aligned law planned r lt) (holds_data law planned r lt)
+          (closed_is ∙ closed_for (final_graph_of planned) r c user e)
 
   all_pass : (c : ℕ) → Each (Passes i t) (slot_uses p f l c)
   all_pass c =
       each_both (Passes i t) (map (data_slot p f l c) (regions_used f.regions c)) (map cover_slot (get_or f.covers c []))
       (each_chosen (Passes i t) (data_slot p f l c) (λ r. is_user c (region_at f.regions r)) 0 (length f.regions) (λ r lt user. data_passes c r (omega (arith, lt)) user))
-      (covers_pass i t (get_or f.covers c []) (covers_are_parts p n f (slots_of b) is.final (apart w is.typed) c))
+      (covers_pass i t (get_or f.covers c []) (covers_are_parts (final_graph_of planned) (apart w is.typed) c))
 
   slots_are : 4 + slots_of b ≤ 16
   slots_are = ⊎_elim (λ e. omega (arith, e)) (λ e. omega (arith, e)) is.board.regions
@@ -164,11 +163,11 @@ module _ (law : PlanLaws) (apart : WindowsLieApart) (w : PlainFirmware) (n : Nee
 
   mask_passes : (c : ℕ) → c < f.groups.count → is_mask t (comp_record p f l (slots_of b) c).mask ≡ true
   unfolding tables_of
-  mask_passes c lt = lt_yes (mask_few p n f (slots_of b) is.final c lt)
+  mask_passes c lt = lt_yes (mask_few (final_graph_of planned) c lt)
 
   reads_pass : (c : ℕ) → c < f.groups.count → is_mask t (comp_record p f l (slots_of b) c).reads ≡ true
   unfolding tables_of
-  reads_pass c lt = lt_yes (reads_few p n f (slots_of b) is.final c lt)
+  reads_pass c lt = lt_yes (reads_few (final_graph_of planned) c lt)
 
   compartment_passes : (c : ℕ) → c < f.groups.count → is_compartment i t (comp_record p f l (slots_of b) c) ≡ true
   compartment_passes c lt = and_yes (code_passes c lt) (and_yes (data_and_covers c) (and_yes (mask_passes c lt) (reads_pass c lt)))
@@ -184,4 +183,4 @@ module _ (law : PlanLaws) (apart : WindowsLieApart) (w : PlainFirmware) (n : Nee
       (each_number (λ (x : CompRecord). is_compartment i t x ≡ true) (comp_record p f l (slots_of b)) 0 f.groups.count (λ c lt. compartment_passes c (omega (arith, lt)))))
 
 pub regions_pass : PlanLaws → WindowsLieApart → RegionsPass
-regions_pass law apart w n f b is = regions_do_not_fail law apart w n f b is
+regions_pass law apart w n f b is = regions_do_not_fail law apart (planned_of is)

@@ -5,14 +5,10 @@ use Rattle.std.proofs.lemmas.List.{get_or-map, get_or_past}
 use Rattle.std.proofs.lemmas.List.Sums.{sum_by-cons}
 use mathlib.Core.Logic.{⊎_elim}
 use Rattle.base_laws.specs.Lists.{Each}
-use Rattle.ir_model.specs.Plain.{PlainFirmware}
 use Rattle.ir_model.specs.Resolve.{resolve}
 use Rattle.ir_model.specs.Resolved.{Program, func_at}
 use Rattle.ir_laws.specs.Typed.{TypedOverNumbers}
 use Rattle.plan_model.specs.declared.needs.SiteNeed.{SiteNeed}
-use Rattle.plan_model.specs.declared.needs.Needs.{Needs}
-use Rattle.plan_model.specs.declared.graph.Final.{Final}
-use Rattle.plan_model.specs.declared.plan.Board.{Board}
 use Rattle.plan_model.specs.declared.plan.Plan.{Plan}
 use Rattle.plan_model.specs.declared.plan.Sizes.{Sizes}
 use Rattle.plan_model.specs.declared.plan.Spot.{Spot}
@@ -28,7 +24,8 @@ use Rattle.monitor_model.specs.declared.tables.TargetRecord.{TargetRecord}
 use Rattle.monitor_model.specs.Area.{site_words, target_words}
 use Rattle.image_model.specs.LinkedTables.{planned_places, return_address, site_records, target_record, target_records, tables_of}
 use Rattle.image_promises.specs.Planned.{planned_tables}
-use Rattle.plan.specs.PlannedFirmwares.{IsPlanned, plan, planned_sizes}
+use Rattle.plan.specs.PlannedFirmwares.{plan, planned_sizes}
+use Rattle.image_promises.proofs.PlannedPremises.{PlannedPremises}
 use Rattle.image_promises.proofs.Facts.{laid, code_blocks_count, needed_most, tables_at_most, tables_block_is}
 use Rattle.image_promises.proofs.FlashParts.{code_count}
 use Rattle.image_promises.proofs.ReadBack.{ReadLaws, code_length, code_fits}
@@ -42,7 +39,9 @@ use Rattle.image_promises.proofs.SiteNeeds.{sites_inside}
 use Rattle.base_laws.proofs.Lists.{each_of}
 use Rattle.plan_model.proofs.Compartments.{each_compartment as all_placed}
 
-module _ (law : ReadLaws) (typing : TypedOverNumbers) (w : PlainFirmware) (n : Needs) (f : Final) (b : Board) (ok : IsPlanned w n f b) where
+module _ (law : ReadLaws) (typing : TypedOverNumbers) (planned : PlannedPremises) where
+  open planned use {firmware as w, needs as n, final as f, board as b, is_planned as ok}
+
   abbrev p : Program
   p = resolve w
 
@@ -55,9 +54,9 @@ module _ (law : ReadLaws) (typing : TypedOverNumbers) (w : PlainFirmware) (n : N
   -- all tables together have at most a MiB
   pub tables_most : table_bytes p n f (slots_of b) ≤ 0x100000
   tables_most =
-      let h = tables_at_most law.plans w n f b ok in
-      let k = (tables_block_is law.plans w n f b ok).1 in
-      let m = needed_most law.plans w n f b ok in
+      let h = tables_at_most law.plans planned in
+      let k = (tables_block_is law.plans planned).1 in
+      let m = needed_most law.plans planned in
       omega (arith, h, k, m)
 
   -- ---- code lies in flash
@@ -67,12 +66,12 @@ module _ (law : ReadLaws) (typing : TypedOverNumbers) (w : PlainFirmware) (n : N
 
   code_ends : (c : ℕ) → c < f.groups.count → base_of c + compartment_size p (code_groups p n f.groups) c ≤ 0x20000000
   code_ends c lt =
-      let m = code_blocks_count law.plans w n f b ok in
+      let m = code_blocks_count law.plans planned in
       let e = code_count p f s b in
       let base : base_of c ≡ (compartment_spot l c).base = get_or-map (λ (x : Spot). x.base) l.code c no_spot 0 (omega (arith, lt, m, e)) in
-      let long = code_length law w n f b ok c lt in
-      let room = code_fits law w n f b ok c lt in
-      let ends = ((laid law.plans w n f b ok).inside c (omega (arith, lt, m, e))).1 in
+      let long = code_length law planned c lt in
+      let room = code_fits law planned c lt in
+      let ends = ((laid law.plans planned).inside c (omega (arith, lt, m, e))).1 in
       let top = ok.board.flash_highest in
       let size = ok.board.flash_size.most in
       omega (arith, base, long, room, ends, top, size)
@@ -85,7 +84,7 @@ module _ (law : ReadLaws) (typing : TypedOverNumbers) (w : PlainFirmware) (n : N
       past le =
           let size = all_placed p f.groups ok.groups in
           let none : compartment_of f.groups h ≡ 0 = get_or_past f.groups.of h 0 (omega (arith, size, le)) in
-          let least = some law typing w n f b ok in
+          let least = some law typing planned in
           omega (arith, none, least)
 
   entry_below : (h : ℕ) → planned_entry p n f l h ≤ 0x20000000

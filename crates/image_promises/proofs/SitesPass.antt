@@ -2,14 +2,10 @@
 use Rattle.std.proofs.Common.{◌≡◌, ℕ, ◌+◌, ◌%◌, ◌<◌, true, length, refl, arith}
 use Rattle.std.specs.Prelude.{Contains}
 use Rattle.base_laws.specs.Lists.{Each}
-use Rattle.ir_model.specs.Plain.{PlainFirmware}
 use Rattle.ir_model.specs.Resolve.{resolve}
 use Rattle.ir_model.specs.Resolved.{Program}
 use Rattle.ir_laws.specs.Typed.{TypedOverNumbers, sizes_of}
 use Rattle.plan_model.specs.declared.needs.SiteNeed.{SiteNeed}
-use Rattle.plan_model.specs.declared.needs.Needs.{Needs}
-use Rattle.plan_model.specs.declared.graph.Final.{Final}
-use Rattle.plan_model.specs.declared.plan.Board.{Board}
 use Rattle.plan_model.specs.declared.plan.Plan.{Plan}
 use Rattle.plan_model.specs.Groups.{compartment_of}
 use Rattle.plan_model.specs.Crossing.{crossing_sites}
@@ -23,8 +19,9 @@ use Rattle.refine.specs.Builds.{Build}
 use Rattle.image_model.specs.Laws.{CountsAgree}
 use Rattle.image_model.specs.LinkedTables.{site_records, target_records, tables_of}
 use Rattle.image_promises.specs.Planned.{planned_tables}
-use Rattle.plan.specs.PlannedFirmwares.{IsPlanned, plan}
+use Rattle.plan.specs.PlannedFirmwares.{plan}
 use Rattle.plan_model.proofs.KeptLimits.{few}
+use Rattle.image_promises.proofs.PlannedPremises.{PlannedPremises, planned_of}
 use Rattle.image_promises.proofs.Passing.{and_yes, lt_yes, eq_yes, must_yes, then_yes, each_yes}
 use Rattle.image_promises.specs.Parts.{linked_build, CodeIsPlaced, IsPlaced}
 use Rattle.image_promises.specs.Sites.{SitesPass}
@@ -39,7 +36,9 @@ pub record SiteLaws : Type 0 where
   pub counts : CountsAgree
   pub typing : TypedOverNumbers
 
-module _ (law : SiteLaws) (w : PlainFirmware) (n : Needs) (f : Final) (b : Board) (is : IsPlanned w n f b) where
+module _ (law : SiteLaws) (planned : PlannedPremises) where
+  open planned use {firmware as w, needs as n, final as f, board as b, is_planned as is}
+
   abbrev p : Program
   p = resolve w
 
@@ -89,6 +88,6 @@ pub sites_pass : SiteLaws → SitesPass
 unfolding tables_of
 sites_pass law w n f b is =
     let t = planned_tables w n f b in
-    then_yes (each_yes (is_site t) (sites_at t) 12 (site_records (resolve w) n f (plan w n f b) 0 (crossing_sites n f.groups)) (sites_each law w n f b is))
-    (then_yes (each_yes (is_target t) (targets_at t) 8 (target_records (resolve w) n f (plan w n f b) (crossing_sites n f.groups)) (targets_each law w n f b is))
-    (must_yes _ t.base (entry_passes law w n f b is (resolve w).main (main_there law w n f b is))))
+    then_yes (each_yes (is_site t) (sites_at t) 12 (site_records (resolve w) n f (plan w n f b) 0 (crossing_sites n f.groups)) (sites_each law (planned_of is)))
+    (then_yes (each_yes (is_target t) (targets_at t) 8 (target_records (resolve w) n f (plan w n f b) (crossing_sites n f.groups)) (targets_each law (planned_of is)))
+    (must_yes _ t.base (entry_passes law (planned_of is) (resolve w).main (main_there law (planned_of is)))))

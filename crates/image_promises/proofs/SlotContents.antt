@@ -16,15 +16,11 @@ use Rattle.machine_protection.specs.RegionWords.{region_of}
 use Rattle.base_laws.specs.Lists.{Each}
 use Rattle.ir_model.specs.declared.object.ObjId.{ObjId}
 use Rattle.ir_model.specs.declared.object.ObjId.TheVariants.{Global, Periph}
-use Rattle.ir_model.specs.Plain.{PlainFirmware}
 use Rattle.ir_model.specs.Resolve.{resolve}
 use Rattle.ir_model.specs.Resolved.{Program}
 use Rattle.ir_laws.specs.Limits.{WindowsLieApart, HasWindows}
-use Rattle.plan_model.specs.declared.needs.Needs.{Needs}
 use Rattle.plan_model.specs.declared.graph.Cover.{Cover}
-use Rattle.plan_model.specs.declared.graph.Final.{Final}
 use Rattle.plan_model.specs.declared.graph.DataRegion as data_region
-use Rattle.plan_model.specs.declared.plan.Board.{Board}
 use Rattle.plan_model.specs.declared.plan.Plan.{Plan}
 use Rattle.plan_model.specs.declared.plan.Sizes.{Sizes}
 use Rattle.plan_model.specs.declared.plan.Spot.{Spot}
@@ -43,7 +39,8 @@ use Rattle.monitor_model.specs.declared.tables.CompRecord.{CompRecord}
 use Rattle.monitor_model.specs.Records.{compartment_at, nobody}
 use Rattle.image_model.specs.LinkedTables.{tables_of, comp_record}
 use Rattle.image_promises.specs.Planned.{planned_tables}
-use Rattle.plan.specs.PlannedFirmwares.{IsPlanned, plan, planned_sizes}
+use Rattle.plan.specs.PlannedFirmwares.{plan, planned_sizes}
+use Rattle.image_promises.proofs.PlannedPremises.{PlannedPremises, planned_of}
 use Rattle.image_promises.proofs.Ranges.{globals_for}
 use Rattle.image_promises.specs.Permissions.{IsOf, IsByteOf, IsOnPeripherals, IsInData, IsPermitted, OnPeripherals, InData, SlotsArePermitted, SlotsHoldPermissions}
 use Rattle.base_laws.proofs.Lists.{each_both, each_to}
@@ -76,7 +73,9 @@ each_two : {X : Type 0} (P Q : X → Type 0) (xs : List X) → Each P xs → Eac
 each_two P Q [] e h = tt
 each_two P Q (x ∷ xs) e h = ((e.0, h.0), each_two P Q xs e.1 h.1)
 
-module _ (law : SlotLaws) (windows : WindowsLieApart) (w : PlainFirmware) (n : Needs) (f : Final) (b : Board) (ok : IsPlanned w n f b) where
+module _ (law : SlotLaws) (windows : WindowsLieApart) (planned : PlannedPremises) where
+  open planned use {firmware as w, needs as n, final as f, board as b, is_planned as ok}
+
   abbrev p : Program
   p = resolve w
 
@@ -99,7 +98,7 @@ module _ (law : SlotLaws) (windows : WindowsLieApart) (w : PlainFirmware) (n : N
 
   in_data : (may : ObjId → Bool) (a r : ℕ) → r < length f.regions → HoldsAddress p f l (ForRegion r) a → ((x : ℕ) → has (region_at f.regions r).globals x ≡ true → may (Global x) ≡ true) → IsInData w n f b may a
   in_data may a r lt held may_global =
-      let inside = ranges.inside law.globals.plans w n f b ok r lt in
+      let inside = ranges.inside law.globals.plans planned r lt in
       let low = inside.0 in
       let high = inside.1 in
       let from = held.0 in
@@ -117,8 +116,8 @@ module _ (law : SlotLaws) (windows : WindowsLieApart) (w : PlainFirmware) (n : N
     where
       one : (x : ℕ) → x < length p.globals → IsByteOf w n f b x a → may (Global x) ≡ true
       one x m byte =
-          let i = placed law.globals w n f b ok x m in
-          let same = alone a r held i.use_of (byte_held law.globals w n f b ok x i a (record { low = byte.0; high = byte.1 })) in
+          let i = placed law.globals planned x m in
+          let same = alone a r held i.use_of (byte_held law.globals planned x i a (record { low = byte.0; high = byte.1 })) in
           may_global x (subst (λ u. has (globals_for f u) x ≡ true) same i.has_it)
 
   -- ---- peripherals
@@ -153,7 +152,7 @@ module _ (law : SlotLaws) (windows : WindowsLieApart) (w : PlainFirmware) (n : N
 
     data_serves : (r : ℕ) → (r < length f.regions) × (is_user c (region_at f.regions r) ≡ true) → Serves (data_slot p f l c r)
     data_serves r (lt, user) m number q =
-        InData (in_data may a r lt ((slot_holds law.globals law.held law.opened law.given w n f b ok c r a m lt number).0 (holds_it (use_region m (data_slot p f l c r)) q)) (may_global r m user lt q))
+        InData (in_data may a r lt ((slot_holds law.globals law.held law.opened law.given planned c r a m lt number).0 (holds_it (use_region m (data_slot p f l c r)) q)) (may_global r m user lt q))
 
     used : Each (λ r. (r < length f.regions) × (is_user c (region_at f.regions r) ≡ true)) (regions_used f.regions c)
     used =
@@ -191,7 +190,7 @@ module _ (law : SlotLaws) (windows : WindowsLieApart) (w : PlainFirmware) (n : N
         free number q = absurd (let none = free_holds a number in let wrong : false ≡ true = sym none ∙ holds_it (free_slot number) q in cc)
 
         inner : c < f.groups.count → Goal
-        inner lt = one_slot Q Goal free (slot_uses p f l c) 4 (slots_of b) (slots_are law w n f b ok).1 all_serve (subst (AnyOf Q) (slots_at law w n f b ok c lt) h)
+        inner lt = one_slot Q Goal free (slot_uses p f l c) 4 (slots_of b) (slots_are law planned).1 all_serve (subst (AnyOf Q) (slots_at law planned c lt) h)
 
         outer : f.groups.count ≤ c → Goal
         outer le =
@@ -252,4 +251,4 @@ module _ (law : SlotLaws) (windows : WindowsLieApart) (w : PlainFirmware) (n : N
       }
 
 pub slots_hold_permissions : SlotLaws → WindowsLieApart → SlotsHoldPermissions
-slots_hold_permissions law windows w n f b ok = slots_are_permitted law windows w n f b ok
+slots_hold_permissions law windows w n f b ok = slots_are_permitted law windows (planned_of ok)

@@ -1,9 +1,5 @@
 -- The leave stub stands at an even address below 2^32.
 use Rattle.std.proofs.Common.{◌≡◌, ◌%◌, arith}
-use Rattle.plan_model.specs.declared.plan.Board.{Board}
-use Rattle.ir_model.specs.Plain.{PlainFirmware}
-use Rattle.plan_model.specs.declared.needs.Needs.{Needs}
-use Rattle.plan_model.specs.declared.graph.Final.{Final}
 use Rattle.monitor_model.specs.declared.tables.Tables.{Tables}
 use Rattle.monitor_program.specs.CodeSize.{CodeFits, StubIsThere}
 use Rattle.monitor_program.specs.Constants.{Constants, constants_with}
@@ -13,7 +9,7 @@ use Rattle.monitor_program.specs.Reset.{reset}
 use Rattle.monitor_program.specs.Svc.{svc}
 use Rattle.image_model.specs.LinkedTables.{tables_of}
 use Rattle.image_promises.specs.Planned.{planned_tables}
-use Rattle.plan.specs.PlannedFirmwares.{IsPlanned}
+use Rattle.image_promises.proofs.PlannedPremises.{PlannedPremises, planned_of}
 use Rattle.image_promises.proofs.Facts.{PlanLaws, laid}
 use Rattle.image_promises.specs.CodeInFlash.{StubIsPlaced}
 use Rattle.monitor_steps.proofs.CodeParts.{length_even}
@@ -25,14 +21,17 @@ offset_even c =
     let d = length_even (memfault c) in
     omega (arith, a, b, d)
 
-tables_first : (law : PlanLaws) (w : PlainFirmware) (n : Needs) (f : Final) (b : Board) (ok : IsPlanned w n f b) → (planned_tables w n f b).base ≡ b.flash_base
-unfolding tables_of
-tables_first law w n f b ok = (laid law w n f b ok).vectors
+module _ (law : PlanLaws) (planned : PlannedPremises) where
+  open planned use {firmware as w, needs as n, final as f, board as b}
+
+  tables_first : (planned_tables w n f b).base ≡ b.flash_base
+  unfolding tables_of
+  tables_first = (laid law planned).vectors
 
 pub stub_is_placed : PlanLaws → CodeFits → StubIsThere → StubIsPlaced
 stub_is_placed law fits there w n f b ok =
     let t : Tables = planned_tables w n f b in
-    let first = tables_first law w n f b ok in
+    let first = tables_first law (planned_of ok) in
     let aligned = ok.board.flash_aligned in
     let highest = ok.board.flash_highest in
     let even = offset_even (constants_with 0 t) in

@@ -1,16 +1,12 @@
 -- The check of the tables passes.
 use Rattle.std.proofs.Common.{◌≡◌, ℕ, zero, suc, ◌+◌, ◌-◌, ◌*◌, ◌^◌, ◌<◌, ◌≤◌, length, map, max, None, refl, sym, ap, ◌∙◌, subst, arith}
 use Rattle.std.specs.List.{range_with_len}
-use Rattle.ir_model.specs.Plain.{PlainFirmware}
 use Rattle.ir_model.specs.Resolved.{Program}
 use Rattle.ir_model.specs.Resolve.{resolve}
 use Rattle.ir_laws.specs.Typed.{TypedOverNumbers}
 use Rattle.machine_protection.specs.Regions.{size_log}
 use Rattle.machine_protection.specs.RegionWords.{region_of}
 use Rattle.machine_protection.specs.declared.words.Rights.TheVariants.{Code}
-use Rattle.plan_model.specs.declared.needs.Needs.{Needs}
-use Rattle.plan_model.specs.declared.graph.Final.{Final}
-use Rattle.plan_model.specs.declared.plan.Board.{Board}
 use Rattle.plan_model.specs.declared.plan.Sizes.{Sizes}
 use Rattle.plan_model.specs.declared.plan.Plan.{Plan}
 use Rattle.plan_model.specs.Boards.{slots_of}
@@ -24,7 +20,8 @@ use Rattle.monitor_model.specs.Checks.{tables_fail}
 use Rattle.image_model.specs.LinkedTables.{comp_record, tables_of}
 use Rattle.image_model.specs.LinkedImage.{linked}
 use Rattle.image_promises.specs.Planned.{planned_tables, planned_image}
-use Rattle.plan.specs.PlannedFirmwares.{IsPlanned, planned_sizes, plan}
+use Rattle.plan.specs.PlannedFirmwares.{planned_sizes, plan}
+use Rattle.image_promises.proofs.PlannedPremises.{PlannedPremises}
 use Rattle.image_promises.proofs.Passing.{and_yes, le_yes, eq_yes, inside_yes, must_yes, then_yes}
 use Rattle.image_promises.proofs.FlashParts.{code_size_is}
 use Rattle.image_promises.proofs.Facts.{laid, length_is, needed_most, tables_at_most, tables_block_is, code_blocks_count, code_block_is, code_at_most}
@@ -33,7 +30,9 @@ use Rattle.plan_model.proofs.KeptLimits.{few, few_targets}
 use Rattle.image_promises.proofs.AreaEnd.{some_compartment, end_is}
 use Rattle.image_promises.proofs.CodeRegions.{code_size_log}
 
-module _ (law : ReadLaws) (typing : TypedOverNumbers) (w : PlainFirmware) (n : Needs) (f : Final) (b : Board) (ok : IsPlanned w n f b) where
+module _ (law : ReadLaws) (typing : TypedOverNumbers) (planned : PlannedPremises) where
+  open planned use {firmware as w, needs as n, final as f, board as b, is_planned as ok}
+
   abbrev p : Program
   p = resolve w
 
@@ -51,17 +50,17 @@ module _ (law : ReadLaws) (typing : TypedOverNumbers) (w : PlainFirmware) (n : N
 
   pub base_is : t.base ≡ b.flash_base
   unfolding tables_of
-  base_is = (laid law.plans w n f b ok).vectors
+  base_is = (laid law.plans planned).vectors
 
   -- a code region has its block
   pub region_size : (c : ℕ) → c < f.groups.count → 2 ^ size_log (code_region l c) ≡ (compartment_spot l c).size
   region_size c lt =
-      let m = code_blocks_count law.plans w n f b ok in
+      let m = code_blocks_count law.plans planned in
       let h : c < length s.code = omega (arith, lt, m) in
-      let q = (code_block_is law.plans w n f b ok c h).0 in
+      let q = (code_block_is law.plans planned c h).0 in
       let z = code_size_is p f s b c h in
-      let most = code_at_most law.plans w n f b ok c h in
-      let small = needed_most law.plans w n f b ok in
+      let most = code_at_most law.plans planned c h in
+      let small = needed_most law.plans planned in
       let e : (compartment_spot l c).size ≡ 2 ^ q.0 = z ∙ q.3 in
       let below : 2 ^ q.0 < 2 ^ 32 = let d = q.3 in omega (arith, d, most, small) in
       ap (λ x. 2 ^ size_log (region_of 2 (compartment_spot l c).base x 0 Code)) e
@@ -73,10 +72,10 @@ module _ (law : ReadLaws) (typing : TypedOverNumbers) (w : PlainFirmware) (n : N
   greatest_from : (lo k : ℕ) → lo + k ≤ f.groups.count → greatest_code (map (comp_record p f l (slots_of b)) (range_with_len lo k)) ≤ flash_needed s
   greatest_from lo zero h = omega arith
   greatest_from lo (suc k) h =
-      let m = code_blocks_count law.plans w n f b ok in
+      let m = code_blocks_count law.plans planned in
       let e = region_size lo (omega (arith, h)) in
       let z = code_size_is p f s b lo (omega (arith, h, m)) in
-      let g = code_at_most law.plans w n f b ok lo (omega (arith, h, m)) in
+      let g = code_at_most law.plans planned lo (omega (arith, h, m)) in
       let ih = greatest_from (lo + 1) k (omega (arith, h)) in
       omega (arith, e, z, g, ih)
 
@@ -92,14 +91,14 @@ module _ (law : ReadLaws) (typing : TypedOverNumbers) (w : PlainFirmware) (n : N
   size_at_most =
       let e = ends in
       let g = greatest_is in
-      let h = tables_at_most law.plans w n f b ok in
+      let h = tables_at_most law.plans planned in
       subst (λ x. max (block x) (greatest_code t.comps) ≤ flash_needed s) (sym e) (omega (arith, g, h))
 
   pub size_enough : area_end t ≤ t.base + tables_size t
   unfolding tables_size
   size_enough =
       let e = ends in
-      let h = (tables_block_is law.plans w n f b ok).1 in
+      let h = (tables_block_is law.plans planned).1 in
       let d = end_is law.counts p n f l b some in
       subst (λ x. area_end t ≤ t.base + max (block x) (greatest_code t.comps)) (sym e) (omega (arith, d, h))
 
@@ -132,7 +131,7 @@ module _ (law : ReadLaws) (typing : TypedOverNumbers) (w : PlainFirmware) (n : N
       let n4 = law.counts.lends p n f l b in
       let base = base_is in
       let first = is_first in
-      let long = length_is law.plans w n f b ok in
+      let long = length_is law.plans planned in
       let top = size_at_most in
       let least = some in
       let a0 : 1 ≤ length t.comps = omega (arith, least, n1) in

@@ -7,14 +7,12 @@ use Rattle.std.proofs.lemmas.List.Elements.{Contains-get_or}
 use Rattle.std.proofs.lemmas.List.FromFn.{get_or-map-range_with_len}
 use Rattle.std.proofs.lemmas.List.Quantifiers.{position-Some}
 use mathlib.Core.Logic.{⊎_elim}
-use Rattle.ir_model.specs.Plain.{PlainFirmware}
 use Rattle.ir_model.specs.Resolve.{resolve}
 use Rattle.ir_model.specs.Resolved.{Program, func_at}
 use Rattle.ir_laws.specs.Typed.{TypedOverNumbers, sizes_of}
 use Rattle.plan_model.specs.declared.needs.SiteNeed.{SiteNeed}
 use Rattle.plan_model.specs.declared.needs.Needs.{Needs}
 use Rattle.plan_model.specs.declared.graph.Final.{Final}
-use Rattle.plan_model.specs.declared.plan.Board.{Board}
 use Rattle.plan_model.specs.declared.plan.Spot.{Spot}
 use Rattle.plan_model.specs.declared.plan.Sizes.{Sizes}
 use Rattle.plan_model.specs.declared.plan.Plan.{Plan}
@@ -36,7 +34,8 @@ use Rattle.refine.specs.Builds.{entry_at, half_at, places_at}
 use Rattle.image_model.specs.Laws.{CountsAgree}
 use Rattle.image_model.specs.LinkedTables.{planned_places, return_address, site_records, target_record, tables_of}
 use Rattle.image_promises.specs.Planned.{planned_tables}
-use Rattle.plan.specs.PlannedFirmwares.{IsPlanned, plan, planned_sizes}
+use Rattle.plan.specs.PlannedFirmwares.{plan, planned_sizes}
+use Rattle.image_promises.proofs.PlannedPremises.{PlannedPremises, planned_of}
 use Rattle.image_promises.proofs.Facts.{PlanLaws, laid, code_block_is, code_blocks_count}
 use Rattle.image_promises.proofs.FlashParts.{code_count, code_size_is}
 use Rattle.image_promises.proofs.Passing.{and_yes, lt_yes, eq_yes}
@@ -58,7 +57,9 @@ pub record TargetLaws : Type 0 where
 abbrev half_of : Program → Needs → Final → Plan → (func block inst : ℕ) → ℕ
 half_of p n f l g b k = planned_entry p n f l g + site_offset (func_at p g) (planned_places p n f l g).sites (code.lent (func_at p g) (planned_places p n f l g)) b k
 
-module _ (law : TargetLaws) (w : PlainFirmware) (n : Needs) (f : Final) (b : Board) (is : IsPlanned w n f b) where
+module _ (law : TargetLaws) (planned : PlannedPremises) where
+  open planned use {firmware as w, needs as n, final as f, board as b, is_planned as is}
+
   abbrev p : Program
   p = resolve w
 
@@ -83,12 +84,12 @@ module _ (law : TargetLaws) (w : PlainFirmware) (n : Needs) (f : Final) (b : Boa
       let c = compartment_of f.groups h in
       let below = placed.each h lt in
       let all = placed.count in
-      let counted = code_blocks_count law.plans w n f b is in
+      let counted = code_blocks_count law.plans planned in
       let count = code_count p f s b in
       let there : c < length s.code = omega (arith, below, counted) in
       let base : get_or (map (λ (x : Spot). x.base) l.code) c 0 ≡ (compartment_spot l c).base = get_or-map (λ (x : Spot). x.base) l.code c no_spot 0 (omega (arith, there, count)) in
       let size : (compartment_spot l c).size ≡ block (get_or s.code c 0) = code_size_is p f s b c there in
-      let room = (code_block_is law.plans w n f b is c there).1 in
+      let room = (code_block_is law.plans planned c there).1 in
       let code : get_or s.code c 0 ≡ compartment_size p (code_groups p n f.groups) c =
       get_or-map-range_with_len (compartment_size p (code_groups p n f.groups)) 0 f.groups.count c c 0 below (let e : 0 + c ≡ c = omega arith in e) in
       let inside = code_inside p (code_groups p n f.groups) h c (omega (arith, all, lt)) refl in
@@ -105,12 +106,12 @@ module _ (law : TargetLaws) (w : PlainFirmware) (n : Needs) (f : Final) (b : Boa
           let a1 = a.1 in
           let d0 = d.0 in
           let d1 = d.1 in
-          let counted = code_blocks_count law.plans w n f b is in
+          let counted = code_blocks_count law.plans planned in
           let count = code_count p f s b in
           let bg = placed.each g lg in
           let bh = placed.each h lh in
           ⊎_elim (λ q. absurd (omega (arith, a0, a1, d0, d1, e, q))) (λ q. absurd (omega (arith, a0, a1, d0, d1, e, q)))
-          ((laid law.plans w n f b is).apart (compartment_of f.groups g) (compartment_of f.groups h) (omega (arith, bg, counted, count)) (omega (arith, bh, counted, count)) ne)
+          ((laid law.plans planned).apart (compartment_of f.groups g) (compartment_of f.groups h) (omega (arith, bg, counted, count)) (omega (arith, bh, counted, count)) ne)
 
       by : (x : Bool) → nat_eq (compartment_of f.groups g) (compartment_of f.groups h) ≡ x → compartment_of f.groups g ≡ compartment_of f.groups h
       by true q = eqb-true _ _ q
@@ -163,4 +164,4 @@ module _ (law : TargetLaws) (w : PlainFirmware) (n : Needs) (f : Final) (b : Boa
 
 pub targets_are_there : TargetLaws → TargetsAreThere
 unfolding half_at entry_at places_at
-targets_are_there law code w n f b is g k m i h lt e has = targets_there law w n f b is g k m i h e has
+targets_are_there law code w n f b is g k m i h lt e has = targets_there law (planned_of is) g k m i h e has

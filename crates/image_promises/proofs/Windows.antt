@@ -4,22 +4,17 @@ use Rattle.std.proofs.lemmas.List.{get_or-map, length-map}
 use mathlib.Core.Logic.{⊎_elim}
 use Rattle.machine_bus.specs.Locations.{InRam, InFlash, InWindow, inside, choose, find_window, location}
 use Rattle.ir_model.specs.declared.firmware.Peripheral.{Peripheral}
-use Rattle.ir_model.specs.Plain.{PlainFirmware}
 use Rattle.ir_model.specs.Resolve as numbers
 use Rattle.ir_model.specs.Resolve.{resolve}
 use Rattle.ir_model.specs.Resolved.{NumberedWindow, window_at, no_window}
 use Rattle.ir_program.specs.Windows.{window_of}
 use Rattle.ir_laws.specs.Limits.{HasWindows, WindowsLieApart}
-use Rattle.machine_protection.specs.Laws.{RegionsHoldTheirBlocks, RegionsGiveTheirRights}
-use Rattle.plan_model.specs.declared.needs.Needs.{Needs}
-use Rattle.plan_model.specs.declared.graph.Final.{Final}
-use Rattle.plan_model.specs.declared.plan.Board.{Board}
 use Rattle.image_model.specs.LinkedImage.{linked}
 use Rattle.image_promises.specs.Planned.{planned_image}
-use Rattle.plan.specs.PlannedFirmwares.{IsPlanned}
+use Rattle.image_promises.proofs.PlannedPremises.{PlannedPremises, planned_of}
 use Rattle.image_promises.proofs.Facts.{PlanLaws, length_is, needed_most}
 use Rattle.image_promises.specs.Parts.{WindowsArePromised}
-use Rattle.image_promises.proofs.WindowsOpen.{FitsSlots, windows_are_open}
+use Rattle.image_promises.proofs.WindowsOpen.{WindowLaws, windows_are_open}
 use Rattle.base_laws.proofs.Multiples.{multiple_of}
 use Rattle.base_laws.proofs.Powers.{power_split}
 use Rattle.machine_bus.proofs.Ranges.{outside_behind as behind_it, inside_yes as in_it, inside_no}
@@ -40,7 +35,9 @@ found_in (x ∷ xs) k (suc q) a l before e =
     ∙ (found_in xs (suc k) q a (omega arith) (λ r h. before (suc r) (omega arith)) e
     ∙ ap (λ j. InWindow j (a - (numbered xs q).base)) (let s : suc k + q ≡ k + suc q = omega arith in s))
 
-module _ (law : PlanLaws) (apart : WindowsLieApart) (w : PlainFirmware) (n : Needs) (f : Final) (b : Board) (is : IsPlanned w n f b) where
+module _ (law : PlanLaws) (apart : WindowsLieApart) (planned : PlannedPremises) where
+  open planned use {firmware as w, needs as n, final as f, board as b, is_planned as is}
+
   windows : HasWindows (resolve w)
   windows = apart w is.typed
 
@@ -68,8 +65,8 @@ module _ (law : PlanLaws) (apart : WindowsLieApart) (w : PlainFirmware) (n : Nee
       let high = is.board.ram_highest in
       let most = is.board.ram_size.most in
       let top = is.board.flash_highest in
-      let size = length_is law w n f b is in
-      let needed = needed_most law w n f b is in
+      let size = length_is law planned in
+      let needed = needed_most law planned in
       let image = planned_image w n f b in
       let count = ap length periphs_are in
       let same = length-map w.periphs numbers.window_of in
@@ -90,14 +87,14 @@ module _ (law : PlanLaws) (apart : WindowsLieApart) (w : PlainFirmware) (n : Nee
       let i = windows.each q l in
       ap (λ x. x % 4) (bases q l) ∙ multiple_of (window_at (resolve w) q).base 4 (2 ^ (i.power.0 - 2)) (2 ^ i.power.0) (power_split 2 i.power.0 (let five : 5 ≤ i.power.0 = i.power.1 in omega (arith, five))) (subst (λ s. (window_at (resolve w) q).base % s ≡ 0) i.power.3 i.aligned)
 
-pub windows_are_promised : PlanLaws → RegionsHoldTheirBlocks → RegionsGiveTheirRights → WindowsLieApart → FitsSlots → WindowsArePromised
+pub windows_are_promised : PlanLaws → WindowLaws → WindowsArePromised
 unfolding linked
-windows_are_promised law held given apart few code w n f b is =
-    let reach = windows_are_open held given apart few code w n f b is in
+windows_are_promised plans law code w n f b is =
+    let reach = windows_are_open law code w n f b is in
     record {
-      bases = bases law apart w n f b is;
-      aligned = aligned law apart w n f b is;
-      leads = leads law apart w n f b is;
+      bases = bases plans law.apart (planned_of is);
+      aligned = aligned plans law.apart (planned_of is);
+      leads = leads plans law.apart (planned_of is);
       loads = reach.loads;
       stores = reach.stores;
     }

@@ -13,7 +13,6 @@ use Rattle.machine_protection.specs.declared.words.Rights.TheVariants.{Device}
 use Rattle.machine_protection.specs.Regions.{holds}
 use Rattle.machine_protection.specs.Laws.{RegionsHoldTheirBlocks, RegionsGiveTheirRights}
 use Rattle.ir_model.specs.declared.object.ObjId.{ObjId}
-use Rattle.ir_model.specs.Plain.{PlainFirmware}
 use Rattle.ir_model.specs.Resolve.{resolve}
 use Rattle.ir_model.specs.Resolved.{Program, window_at}
 use Rattle.ir_model.specs.State.{PeriphObject}
@@ -24,7 +23,6 @@ use Rattle.plan_model.specs.declared.groups.Groups.{Groups}
 use Rattle.plan_model.specs.declared.graph.Cover.{Cover}
 use Rattle.plan_model.specs.declared.graph.Graph.{Graph}
 use Rattle.plan_model.specs.declared.graph.Final.{Final}
-use Rattle.plan_model.specs.declared.plan.Board.{Board}
 use Rattle.plan_model.specs.Boards.{slots_of}
 use Rattle.plan_model.specs.Lists.{numbers_below, has}
 use Rattle.plan_model.specs.Needs.{need_of, AreNeeds}
@@ -32,7 +30,7 @@ use Rattle.plan_model.specs.Groups.{compartment_of, uses}
 use Rattle.plan_model.specs.Regions.{regions_used}
 use Rattle.plan_model.specs.Covers.{is_inside, end_of}
 use Rattle.plan_model.specs.InitialGraph.{cover_of, covers_of, initial_graph}
-use Rattle.plan_model.specs.FinalGraph.{IsFinal, IsMerged}
+use Rattle.plan_model.specs.FinalGraph.{IsMerged}
 use Rattle.plan_model.specs.Slots.{SlotUse, cover_slot, data_slot, slot_uses, slot_regions, slots_from}
 use Rattle.need_laws.specs.Reached.{IsListed}
 use Rattle.monitor_model.specs.declared.tables.CompRecord.{CompRecord}
@@ -40,8 +38,10 @@ use Rattle.monitor_model.specs.Records.{compartment_at}
 use Rattle.monitor_model.specs.Setting.{may_load, may_store, allows_stores}
 use Rattle.machine_protection.specs.Protection.{deciding}
 use Rattle.image_promises.specs.Planned.{planned_tables, planned_image}
-use Rattle.plan.specs.PlannedFirmwares.{IsPlanned, plan}
+use Rattle.plan.specs.PlannedFirmwares.{plan}
 use Rattle.image_promises.specs.Parts.{WindowsAreOpen}
+use Rattle.image_promises.proofs.FinalGraphs.{FinalGraph}
+use Rattle.image_promises.proofs.PlannedPremises.{PlannedPremises, planned_of, final_graph_of}
 use Rattle.image_promises.proofs.Bearing.{Bears, Borne, here, there, Written, this, behind, written_behind, borne_holds, written_stores, cover_lets, covers_harmless}
 use Rattle.image_promises.proofs.Covers.{stays_all}
 use Rattle.image_promises.proofs.CoverParts.{IsPart, AreParts}
@@ -97,7 +97,9 @@ first_at : (p : Program) (n : Needs) (g : Groups) (c : ℕ) → c < g.count → 
 unfolding initial_graph
 first_at p n g c l = get_or-map-range_with_len (covers_of p n g) 0 g.count c c [] l (omega arith)
 
-module _ (p : Program) (n : Needs) (f : Final) (slots : ℕ) (final : IsFinal p n f.groups slots f) where
+module _ (graph : FinalGraph) where
+  open graph use {program as p, needs as n, final as f, slots, is_final as final}
+
   covers_are : (c : ℕ) → get_or f.covers c [] ≡ get_or final.last.covers c []
   covers_are c = ap (λ (x : Final). get_or x.covers c []) final.is
 
@@ -150,7 +152,17 @@ module _ (held : RegionsHoldTheirBlocks) (given : RegionsGiveTheirRights) (a : �
 abbrev pub FitsSlots : Type 0
 FitsSlots = (p : Program) (slots : ℕ) (g : Graph) (f : Final) → 2 ≤ slots → IsMerged p slots g f → (c : ℕ) → c < f.groups.count → length (regions_used f.regions c) + length (get_or f.covers c []) ≤ slots
 
-module _ (held : RegionsHoldTheirBlocks) (given : RegionsGiveTheirRights) (apart : WindowsLieApart) (few : FitsSlots) (w : PlainFirmware) (n : Needs) (f : Final) (b : Board) (is : IsPlanned w n f b) where
+-- what open windows rest on
+pub record WindowLaws : Type 0 where
+  pub held : RegionsHoldTheirBlocks
+  pub given : RegionsGiveTheirRights
+  pub apart : WindowsLieApart
+  pub few : FitsSlots
+
+module _ (law : WindowLaws) (planned : PlannedPremises) where
+  open law use {held, given, apart, few}
+  open planned use {firmware as w, needs as n, final as f, board as b, is_planned as is}
+
   abbrev p : Program
   p = resolve w
 
@@ -174,8 +186,8 @@ module _ (held : RegionsHoldTheirBlocks) (given : RegionsGiveTheirRights) (apart
       let used : uses n f.groups c q ≡ true = one_of f.groups (λ y. has (need_of n y).periphs q) g inn.listed h in
       let windows = apart w is.typed in
       written_behind a (map (data_slot p f (plan w n f b) c) (regions_used f.regions c)) (map cover_slot (get_or f.covers c []))
-      (written_cover held given a (cover_of p q) (get_or f.covers c []) (covers_are_parts p n f (slots_of b) is.final windows c) (omega arith) (omega (arith, s))
-      (covered p n f (slots_of b) is.final c q inn.below m used))
+      (written_cover held given a (cover_of p q) (get_or f.covers c []) (covers_are_parts (final_graph_of planned) windows c) (omega arith) (omega (arith, s))
+      (covered (final_graph_of planned) c q inn.below m used))
 
   slots_at : (c : ℕ) → c < f.groups.count → (compartment_at (planned_tables w n f b) c).slots ≡ slots_from 4 (slots_of b) (slot_uses p f (plan w n f b) c)
   unfolding slot_regions
@@ -203,8 +215,8 @@ module _ (held : RegionsHoldTheirBlocks) (given : RegionsGiveTheirRights) (apart
       ap (λ gs. allows_stores (deciding gs a)) (slots_at c inn.below)
       ∙ written_stores a (slot_uses p f (plan w n f b) c) 4 (slots_of b) (slots_written g q j l h m s) (uses_few c inn.below) slots_are.1
 
-pub windows_are_open : RegionsHoldTheirBlocks → RegionsGiveTheirRights → WindowsLieApart → FitsSlots → WindowsAreOpen
-windows_are_open held given apart few code w n f b is = record {
-  loads = λ g q j l i m s. window_loads held given apart few w n f b is g q j l (read_uses (resolve w) is.sets b.closed n is.needs g l q i) m s;
-  stores = λ g q j l i m s. window_stores held given apart few w n f b is g q j l (written_uses (resolve w) is.sets b.closed n is.needs g l q i) m s;
+pub windows_are_open : WindowLaws → WindowsAreOpen
+windows_are_open law code w n f b is = record {
+  loads = λ g q j l i m s. window_loads law (planned_of is) g q j l (read_uses (resolve w) is.sets b.closed n is.needs g l q i) m s;
+  stores = λ g q j l i m s. window_stores law (planned_of is) g q j l (written_uses (resolve w) is.sets b.closed n is.needs g l q i) m s;
 }

@@ -1,35 +1,27 @@
 -- Each access of a peripheral is one of the acting compartment's permission.
 use Rattle.std.proofs.Common.{◌≡◌, ℕ, zero, suc, ◌<◌, inl, inr, true, List, [], ◌∷◌, length, map, get_or, Some, slice_get, refl, ap, sym, ◌∙◌, subst, arith}
 use Rattle.std.proofs.lemmas.List.{length-map}
-use Rattle.machine_model.specs.State.{State}
 use Rattle.machine_model.specs.Confinement.{AnyOf}
-use Rattle.machine_devices.specs.declared.image.Image.{Image}
 use Rattle.machine_devices.specs.declared.image.Window.{Window}
 use Rattle.machine_bus.specs.Locations.{location, InWindow}
 use Rattle.ir_model.specs.declared.firmware.Peripheral.{Peripheral}
 use Rattle.ir_model.specs.declared.object.ObjId.TheVariants.{Periph}
-use Rattle.ir_model.specs.Plain.{PlainFirmware}
 use Rattle.ir_model.specs.Resolve as numbers
 use Rattle.ir_model.specs.Resolve.{resolve}
 use Rattle.ir_model.specs.Resolved.{NumberedWindow, window_at, no_window}
 use Rattle.ir_program.specs.Windows.{window_of}
-use Rattle.plan_model.specs.declared.needs.Needs.{Needs}
 use Rattle.plan_model.specs.declared.graph.Cover.{Cover}
-use Rattle.plan_model.specs.declared.graph.Final.{Final}
-use Rattle.plan_model.specs.declared.plan.Board.{Board}
 use Rattle.plan_model.specs.InitialGraph.{cover_of}
 use Rattle.plan_model.specs.Permission.{may_write, may_read}
 use Rattle.monitor_model.specs.declared.tables.Tables.{Tables}
 use Rattle.monitor_model.specs.BlockWords.{current}
 use Rattle.monitor_model.specs.Confined.{later}
 use Rattle.image_promises.specs.Planned.{planned_tables}
-use Rattle.plan.specs.PlannedFirmwares.{IsPlanned}
 use Rattle.image_promises.specs.Permissions.{IsOf, IsOnPeripherals, IsPermitted, OnPeripherals, InData, SlotsArePermitted}
-use Rattle.image_promises.specs.Whole.{IsForBoard}
-use Rattle.machine_devices.specs.Rules.{ObeysRules}
-use Rattle.monitor_runs.specs.Stays.{KeepsMemory}
 use Rattle.monitor_runs.proofs.Windows.{high, window_at as place_window}
 use Rattle.image_runs.specs.Isolated.{AccessesArePermitted}
+use Rattle.image_promises.proofs.PlannedPremises.{PlannedPremises}
+use Rattle.image_runs.proofs.KeptRuns.{KeptRun}
 
 -- a window of the list is that of its peripheral
 window_found : (ps : List Peripheral) (q : ℕ) (x : Window) → slice_get (map window_of ps) q ≡ Some x → (q < length ps) × (x.base ≡ (get_or (map numbers.window_of ps) q no_window).base) × (x.size ≡ (get_or (map numbers.window_of ps) q no_window).size)
@@ -39,7 +31,10 @@ window_found (y ∷ ys) zero x e =
     (omega arith, ap (λ (v : Window). v.base) (sym z), ap (λ (v : Window). v.size) (sym z))
 window_found (y ∷ ys) (suc q) x e = let r = window_found ys q x e in (let lt = r.0 in omega (arith, lt), r.1, r.2)
 
-module _ (w : PlainFirmware) (n : Needs) (f : Final) (b : Board) (ok : IsPlanned w n f b) (slots : SlotsArePermitted w n f b) (i : Image) (rules : ObeysRules i) (board : IsForBoard w b i) where
+module _ (planned : PlannedPremises) (slots : SlotsArePermitted planned.firmware planned.needs planned.final planned.board) (run : KeptRun planned) where
+  open planned use {firmware as w, needs as n, final as f, board as b, is_planned as ok}
+  open run use {image as i, rules, board, first, keeps}
+
   abbrev t : Tables
   t = planned_tables w n f b
 
@@ -75,10 +70,9 @@ module _ (w : PlainFirmware) (n : Needs) (f : Final) (b : Board) (ok : IsPlanned
   uses_it c a q offset e (InData d) =
       absurd (let h = high i rules a q offset e in let x = d.to in let z = ok.board.ram_highest in let u = ok.board.ram_size.most in omega (arith, h, x, z, u))
 
-  module _ (first : State) (keeps : KeepsMemory i t first) where
-    pub accesses_are_permitted : AccessesArePermitted w n f b i t first
-    accesses_are_permitted k e started told =
-        let x = keeps.accesses k e started told in
-        let c : ℕ = current i t (later i t first k).ram in
-        let u = uses_it c x.address e.periph e.offset x.there (slots.loads c x.address x.in_slot) in
-        (x.acts, x.compartment, (in_cover x.address e.periph e.offset x.there).0, subst (λ (d : ℕ). may_write (resolve w) n f d (Periph e.periph) ≡ true) (sym x.compartment) u)
+  pub accesses_are_permitted : AccessesArePermitted w n f b i t first
+  accesses_are_permitted k e started told =
+      let x = keeps.accesses k e started told in
+      let c : ℕ = current i t (later i t first k).ram in
+      let u = uses_it c x.address e.periph e.offset x.there (slots.loads c x.address x.in_slot) in
+      (x.acts, x.compartment, (in_cover x.address e.periph e.offset x.there).0, subst (λ (d : ℕ). may_write (resolve w) n f d (Periph e.periph) ≡ true) (sym x.compartment) u)

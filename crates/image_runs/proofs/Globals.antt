@@ -6,12 +6,8 @@ use Rattle.machine_model.specs.State.{State}
 use Rattle.machine_model.specs.Confinement.{AnyOf}
 use Rattle.ir_model.specs.declared.object.ObjId.{ObjId}
 use Rattle.ir_model.specs.declared.object.ObjId.TheVariants.{Global}
-use Rattle.ir_model.specs.Plain.{PlainFirmware}
 use Rattle.ir_model.specs.Resolve.{resolve}
-use Rattle.plan_model.specs.declared.needs.Needs.{Needs}
 use Rattle.plan_model.specs.declared.graph.Cover.{Cover}
-use Rattle.plan_model.specs.declared.graph.Final.{Final}
-use Rattle.plan_model.specs.declared.plan.Board.{Board}
 use Rattle.plan_model.specs.Permission.{may_write}
 use Rattle.monitor_model.specs.declared.tables.Tables.{Tables}
 use Rattle.monitor_model.specs.BlockWords.{current}
@@ -19,7 +15,7 @@ use Rattle.monitor_model.specs.Reach.{InBlock}
 use Rattle.monitor_model.specs.Confined.{later}
 use Rattle.image_model.specs.LinkedTables.{tables_of}
 use Rattle.image_promises.specs.Planned.{planned_tables}
-use Rattle.plan.specs.PlannedFirmwares.{IsPlanned}
+use Rattle.image_promises.proofs.PlannedPremises.{PlannedPremises}
 use Rattle.image_promises.proofs.Facts.{monitor_size_is}
 use Rattle.image_promises.specs.Permissions.{IsByteOf, IsOnPeripherals, IsPermitted, OnPeripherals, InData, SlotsArePermitted}
 use Rattle.image_promises.proofs.GlobalPlaces.{GlobalLaws, in_ram, off_stack, off_monitor}
@@ -27,7 +23,9 @@ use Rattle.monitor_runs.specs.Acts.{IsOutside, OnStack, IsWritable}
 use Rattle.monitor_runs.specs.Stays.{KeepsMemory}
 use Rattle.image_runs.specs.Isolated.{GlobalsStay, GlobalsChangeByTheirWriters}
 
-module _ (law : GlobalLaws) (w : PlainFirmware) (n : Needs) (f : Final) (b : Board) (ok : IsPlanned w n f b) (slots : SlotsArePermitted w n f b) where
+module _ (law : GlobalLaws) (planned : PlannedPremises) (slots : SlotsArePermitted planned.firmware planned.needs planned.final planned.board) where
+  open planned use {firmware as w, needs as n, final as f, board as b, is_planned as ok}
+
   abbrev t : Tables
   t = planned_tables w n f b
 
@@ -48,24 +46,24 @@ module _ (law : GlobalLaws) (w : PlainFirmware) (n : Needs) (f : Final) (b : Boa
     where
       by : IsPermitted w n f b (may_write (resolve w) n f c) c a → may_write (resolve w) n f c (Global x) ≡ true
       by (OnPeripherals o) =
-          absurd (let r = (in_ram law w n f b ok x lt).1 in let hi = byte.1 in no_range (may_write (resolve w) n f c) a (omega (arith, r, hi)) _ o)
+          absurd (let r = (in_ram law planned x lt).1 in let hi = byte.1 in no_range (may_write (resolve w) n f c) a (omega (arith, r, hi)) _ o)
       by (InData d) = d.permitted x lt byte
 
   module _ (x a : ℕ) (lt : x < length (resolve w).globals) (byte : IsByteOf w n f b x a) where
     pub off : OnStack t a → ⊥
     unfolding tables_of
-    off on = off_stack law w n f b ok x a lt (record { low = byte.0; high = byte.1 }) on.0 on.1
+    off on = off_stack law planned x a lt (record { low = byte.0; high = byte.1 }) on.0 on.1
 
     pub off_block : InBlock t a → ⊥
     unfolding tables_of
-    off_block o = off_monitor law w n f b ok x a lt (record { low = byte.0; high = byte.1 }) o.0 (let z = monitor_size_is law.plans w n f b ok in let hi = o.1 in omega (arith, z, hi))
+    off_block o = off_monitor law planned x a lt (record { low = byte.0; high = byte.1 }) o.0 (let z = monitor_size_is law.plans planned in let hi = o.1 in omega (arith, z, hi))
 
   -- ---- a run of an image with the board's RAM
 
   module _ (i : Image) (base : i.ram_base ≡ b.ram_base) (first : State) (keeps : KeepsMemory i t first) where
     pub outside : (x a : ℕ) → x < length (resolve w).globals → IsByteOf w n f b x a → IsOutside i t a
     outside x a lt byte = record {
-      from_base = let r = (in_ram law w n f b ok x lt).0 in let lo = byte.0 in omega (arith, r, lo, base);
+      from_base = let r = (in_ram law planned x lt).0 in let lo = byte.0 in omega (arith, r, lo, base);
       off_block = off_block x a lt byte;
     }
 

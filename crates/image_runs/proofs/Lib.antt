@@ -1,6 +1,7 @@
 mod Devices
 mod Slots
 mod KeptOff
+mod KeptRuns
 mod Globals
 mod Accesses
 mod OwnRegions

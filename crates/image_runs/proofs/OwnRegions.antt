@@ -12,13 +12,9 @@ use Rattle.machine_protection.specs.declared.words.Rights.TheVariants.{Ram, Back
 use Rattle.machine_protection.specs.Regions.{holds, permission, allows}
 use Rattle.machine_protection.specs.RegionWords.{region_of}
 use Rattle.base_laws.specs.Lists.{Each}
-use Rattle.ir_model.specs.Plain.{PlainFirmware}
 use Rattle.ir_model.specs.Resolve.{resolve}
 use Rattle.ir_model.specs.Resolved.{Program}
-use Rattle.plan_model.specs.declared.needs.Needs.{Needs}
 use Rattle.plan_model.specs.declared.graph.Cover.{Cover}
-use Rattle.plan_model.specs.declared.graph.Final.{Final}
-use Rattle.plan_model.specs.declared.plan.Board.{Board}
 use Rattle.plan_model.specs.declared.plan.Plan.{Plan}
 use Rattle.plan_model.specs.declared.plan.Spot.{Spot}
 use Rattle.plan_model.specs.Boards.{slots_of}
@@ -31,8 +27,9 @@ use Rattle.monitor_model.specs.declared.tables.CompRecord.{CompRecord}
 use Rattle.monitor_model.specs.Records.{compartment_at, nobody}
 use Rattle.image_model.specs.LinkedTables.{tables_of, comp_record}
 use Rattle.image_promises.specs.Planned.{planned_tables}
-use Rattle.plan.specs.PlannedFirmwares.{IsPlanned, plan}
+use Rattle.plan.specs.PlannedFirmwares.{plan}
 use Rattle.base_laws.proofs.Lists.{each_both}
+use Rattle.image_promises.proofs.PlannedPremises.{PlannedPremises, planned_of, final_graph_of}
 use Rattle.image_promises.proofs.Lists.{each_passing, each_map, below_all}
 use Rattle.image_promises.proofs.Bearing.{use_region}
 use Rattle.image_promises.proofs.CoverParts.{IsPart}
@@ -41,7 +38,9 @@ use Rattle.image_promises.proofs.DataSlots.{few_bits, slot_holds}
 use Rattle.image_promises.proofs.OneSlot.{OwnSlotLaws, free_holds, one_slot}
 use Rattle.image_runs.specs.Own.{IsInRegion, SlotsAreOwn, PlannedSlotsAreOwn}
 
-module _ (law : OwnSlotLaws) (w : PlainFirmware) (n : Needs) (f : Final) (b : Board) (ok : IsPlanned w n f b) where
+module _ (law : OwnSlotLaws) (planned : PlannedPremises) where
+  open planned use {firmware as w, needs as n, final as f, board as b, is_planned as ok}
+
   abbrev p : Program
   p = resolve w
 
@@ -69,7 +68,7 @@ module _ (law : OwnSlotLaws) (w : PlainFirmware) (n : Needs) (f : Final) (b : Bo
       region = r;
       there = lt;
       mine = is_mine r m user q;
-      held = (slot_holds law.globals law.held law.opened law.given w n f b ok c r a m lt number).0 (holds_it (use_region m (data_slot p f l c r)) q);
+      held = (slot_holds law.globals law.held law.opened law.given planned c r a m lt number).0 (holds_it (use_region m (data_slot p f l c r)) q);
     }
 
     used : Each (λ r. (r < length f.regions) × (is_user c (region_at f.regions r) ≡ true)) (regions_used f.regions c)
@@ -90,7 +89,7 @@ module _ (law : OwnSlotLaws) (w : PlainFirmware) (n : Needs) (f : Final) (b : Bo
     all_serve =
         each_both Serves (map (data_slot p f l c) (regions_used f.regions c)) (map cover_slot (get_or f.covers c []))
         (each_map Serves (data_slot p f l c) (λ r. (r < length f.regions) × (is_user c (region_at f.regions r) ≡ true)) (regions_used f.regions c) data_serves used)
-        (each_map Serves cover_slot IsPart (get_or f.covers c []) cover_serves (covers_are_parts p n f (slots_of b) ok.final (law.windows w ok.typed) c))
+        (each_map Serves cover_slot IsPart (get_or f.covers c []) cover_serves (covers_are_parts (final_graph_of planned) (law.windows w ok.typed) c))
 
     slot_serves : AnyOf Q (compartment_at (planned_tables w n f b) c).slots → Goal
     unfolding tables_of
@@ -138,4 +137,4 @@ module _ (law : OwnSlotLaws) (w : PlainFirmware) (n : Needs) (f : Final) (b : Bo
   }
 
 pub planned_slots_are_own : OwnSlotLaws → PlannedSlotsAreOwn
-planned_slots_are_own law w n f b ok = slots_are_own law w n f b ok
+planned_slots_are_own law w n f b ok = slots_are_own law (planned_of ok)

@@ -2,8 +2,6 @@
 use Rattle.std.proofs.Common.{◌≡◌, ℕ, ◌+◌, ◌-◌, ◌<◌, ◌≤◌, inl, inr, true, List, [], ◌∷◌, length, sym, ◌∙◌, subst, arith}
 use Rattle.machine_protection.specs.declared.region.Region.{Region}
 use Rattle.machine_protection.specs.Regions.{holds}
-use Rattle.machine_devices.specs.declared.image.Image.{Image}
-use Rattle.machine_devices.specs.Rules.{ObeysRules}
 use Rattle.machine_bus.specs.Locations.{InRam, InFlash, location}
 use Rattle.machine_bus.proofs.Offsets.{in_ram as ram_place}
 use Rattle.machine_bus.proofs.Ranges.{inside_true}
@@ -12,11 +10,7 @@ use Rattle.machine_model.specs.Confinement.{AnyOf}
 use Rattle.machine_model.specs.Step.{turn}
 use Rattle.base_laws.specs.Lists.{Each}
 use Rattle.ir_model.specs.declared.object.ObjId.TheVariants.{Global}
-use Rattle.ir_model.specs.Plain.{PlainFirmware}
 use Rattle.ir_model.specs.Resolve.{resolve}
-use Rattle.plan_model.specs.declared.needs.Needs.{Needs}
-use Rattle.plan_model.specs.declared.graph.Final.{Final}
-use Rattle.plan_model.specs.declared.plan.Board.{Board}
 use Rattle.plan_model.specs.Permission.{may_read}
 use Rattle.monitor_model.specs.declared.tables.Tables.{Tables}
 use Rattle.monitor_model.specs.Records.{compartment_at}
@@ -25,13 +19,12 @@ use Rattle.monitor_model.specs.Reach.{AllBytes, InOpenStack}
 use Rattle.monitor_model.specs.Confined.{later}
 use Rattle.monitor_model.specs.Handlers.{LoadFor, ForFlash, ForBlock, ForSystem, ForStack, ForLoan, ForReturn}
 use Rattle.image_promises.specs.Planned.{planned_tables}
-use Rattle.plan.specs.PlannedFirmwares.{IsPlanned}
 use Rattle.image_promises.specs.Permissions.{IsByteOf, IsPermitted, OnPeripherals, InData, SlotsArePermitted}
+use Rattle.image_promises.proofs.PlannedPremises.{PlannedPremises}
 use Rattle.image_promises.proofs.GlobalPlaces.{GlobalLaws, in_ram}
-use Rattle.image_promises.specs.Whole.{IsForBoard}
 use Rattle.monitor_runs.specs.Acts.{Acts, MayRead, ReadsSlot, ReadsStack, ReadsFlash}
-use Rattle.monitor_runs.specs.Stays.{KeepsMemory}
 use Rattle.image_runs.specs.Isolated.{GlobalsAreReadByTheirReaders, MonitorReadsNoGlobal}
+use Rattle.image_runs.proofs.KeptRuns.{KeptRun}
 use Rattle.image_runs.proofs.Globals.{no_range, off, off_block}
 
 -- what holds of each byte of each access holds of a byte that one of them touches
@@ -44,8 +37,10 @@ touched P a (y ∷ ys) e (inl h) =
     subst P at (e.0 (a - y.address) (omega (arith, lo, hi)))
 touched P a (y ∷ ys) e (inr h) = touched P a ys e.1 h
 
-module _ (law : GlobalLaws) (w : PlainFirmware) (n : Needs) (f : Final) (b : Board) (ok : IsPlanned w n f b) (slots : SlotsArePermitted w n f b)
-    (i : Image) (rules : ObeysRules i) (board : IsForBoard w b i) (first : State) (keeps : KeepsMemory i (planned_tables w n f b) first) where
+module _ (law : GlobalLaws) (planned : PlannedPremises) (slots : SlotsArePermitted planned.firmware planned.needs planned.final planned.board) (run : KeptRun planned) where
+  open planned use {firmware as w, needs as n, final as f, board as b}
+  open run use {image as i, rules, board, first, keeps}
+
   abbrev t : Tables
   t = planned_tables w n f b
 
@@ -55,7 +50,7 @@ module _ (law : GlobalLaws) (w : PlainFirmware) (n : Needs) (f : Final) (b : Boa
   module _ (x a : ℕ) (lt : x < length (resolve w).globals) (byte : IsByteOf w n f b x a) where
     in_memory : (i.ram_base ≤ a) × (a < i.ram_base + i.ram_size)
     in_memory =
-        let r = in_ram law w n f b ok x lt in
+        let r = in_ram law planned x lt in
         let first = r.0 in
         let last = r.1 in
         let lo = byte.0 in
@@ -70,7 +65,7 @@ module _ (law : GlobalLaws) (w : PlainFirmware) (n : Needs) (f : Final) (b : Boa
       where
         by : IsPermitted w n f b (may_read (resolve w) n f c) c a → may_read (resolve w) n f c (Global x) ≡ true
         by (OnPeripherals o) =
-            absurd (let r = (in_ram law w n f b ok x lt).1 in let hi = byte.1 in no_range law w n f b ok slots (may_read (resolve w) n f c) a (omega (arith, r, hi)) _ o)
+            absurd (let r = (in_ram law planned x lt).1 in let hi = byte.1 in no_range law planned slots (may_read (resolve w) n f c) a (omega (arith, r, hi)) _ o)
         by (InData d) = d.permitted x lt byte
 
     off_flash : a < i.flash_base + 0x100000 → ⊥
@@ -93,7 +88,7 @@ module _ (law : GlobalLaws) (w : PlainFirmware) (n : Needs) (f : Final) (b : Boa
     off_open k acts o =
         let most = (keeps.bounded k acts).most_open in
         let hi = o.1 in
-        off law w n f b ok slots x a lt byte (o.0, omega (arith, hi, most))
+        off law planned slots x a lt byte (o.0, omega (arith, hi, most))
 
     by_instruction : (k : ℕ) → Acts i t first k → MayRead i t (at k) a → may_read (resolve w) n f (current i t (at k).ram) (Global x) ≡ true
     by_instruction k acts (ReadsSlot h) = reads_it (current i t (at k).ram) h
@@ -102,7 +97,7 @@ module _ (law : GlobalLaws) (w : PlainFirmware) (n : Needs) (f : Final) (b : Boa
 
     by_monitor : (k : ℕ) → Acts i t first k → LoadFor i t (at k) a → ⊥
     by_monitor k acts (ForFlash o e) = not_flash o e
-    by_monitor k acts (ForBlock o) = off_block law w n f b ok slots x a lt byte o
+    by_monitor k acts (ForBlock o) = off_block law planned slots x a lt byte o
     by_monitor k acts (ForSystem e) =
         let lo = (inside_true 0xE0000000 0x100000 a e).0 in
         let hi = in_memory.1 in
@@ -110,8 +105,8 @@ module _ (law : GlobalLaws) (w : PlainFirmware) (n : Needs) (f : Final) (b : Boa
         let most = rules.ram_most in
         omega (arith, lo, hi, highest, most)
     by_monitor k acts (ForStack o) = off_open k acts o
-    by_monitor k acts (ForLoan l h) = off law w n f b ok slots x a lt byte ((keeps.bounded k acts).lent l a h.live h.from_address h.below_end)
-    by_monitor k acts (ForReturn s h) = off law w n f b ok slots x a lt byte ((keeps.bounded k acts).frame a h)
+    by_monitor k acts (ForLoan l h) = off law planned slots x a lt byte ((keeps.bounded k acts).lent l a h.live h.from_address h.below_end)
+    by_monitor k acts (ForReturn s h) = off law planned slots x a lt byte ((keeps.bounded k acts).frame a h)
 
   pub globals_read : GlobalsAreReadByTheirReaders w n f b i t first
   globals_read closed x a k lt byte acts h =

@@ -4,11 +4,7 @@ use Rattle.std.proofs.lemmas.Bool.{false≢true}
 use mathlib.Core.Logic.{⊎_elim}
 use Rattle.machine_devices.specs.declared.image.Image.{Image}
 use Rattle.machine_model.specs.State.{State}
-use Rattle.ir_model.specs.Plain.{PlainFirmware}
 use Rattle.ir_model.specs.Resolve.{resolve}
-use Rattle.plan_model.specs.declared.needs.Needs.{Needs}
-use Rattle.plan_model.specs.declared.graph.Final.{Final}
-use Rattle.plan_model.specs.declared.plan.Board.{Board}
 use Rattle.plan_model.specs.declared.plan.Plan.{Plan}
 use Rattle.plan_model.specs.Blocks.{region_bytes}
 use Rattle.plan_model.specs.Lists.{has}
@@ -22,7 +18,8 @@ use Rattle.monitor_model.specs.Reach.{InBlock}
 use Rattle.monitor_model.specs.Confined.{later}
 use Rattle.image_model.specs.LinkedTables.{tables_of}
 use Rattle.image_promises.specs.Planned.{planned_tables}
-use Rattle.plan.specs.PlannedFirmwares.{IsPlanned, plan, planned_sizes}
+use Rattle.plan.specs.PlannedFirmwares.{plan, planned_sizes}
+use Rattle.image_promises.proofs.PlannedPremises.{PlannedPremises}
 use Rattle.image_promises.proofs.Facts.{PlanLaws, monitor_size_is}
 use Rattle.image_promises.proofs.Ranges.{IsUse, block_in, block_size_is}
 use Rattle.image_promises.proofs.GlobalPlaces.{same_or_other}
@@ -36,7 +33,9 @@ abbrev number_of : RamUse → ℕ
 number_of (ForRegion r) = r
 number_of _ = 0
 
-module _ (law : PlanLaws) (w : PlainFirmware) (n : Needs) (f : Final) (b : Board) (ok : IsPlanned w n f b) (own : SlotsAreOwn w n f b) where
+module _ (law : PlanLaws) (planned : PlannedPremises) (own : SlotsAreOwn planned.firmware planned.needs planned.final planned.board) where
+  open planned use {firmware as w, needs as n, final as f, board as b, is_planned as ok}
+
   abbrev t : Tables
   t = planned_tables w n f b
 
@@ -49,8 +48,8 @@ module _ (law : PlanLaws) (w : PlainFirmware) (n : Needs) (f : Final) (b : Board
 
     in_ram : (b.ram_base ≤ a) × (a < b.ram_base + b.ram_size)
     in_ram =
-        let z = (block_in law w n f b ok (ForRegion r) of_region).0 in
-        let size = block_size_is law w n f b ok (ForRegion r) of_region in
+        let z = (block_in law planned (ForRegion r) of_region).0 in
+        let size = block_size_is law planned (ForRegion r) of_region in
         let within = open_within (region_spot l r).size (region_bytes (resolve w) (region_at f.regions r).globals) in
         let x = z.0 in
         let y = z.1 in
@@ -64,7 +63,7 @@ module _ (law : PlanLaws) (w : PlainFirmware) (n : Needs) (f : Final) (b : Board
 
     off_block : InBlock t a → ⊥
     unfolding tables_of
-    off_block o = law.apart (resolve w) f (planned_sizes w n f b) b (ForRegion r) ForMonitor a (λ e. cc) held (o.0, let z = monitor_size_is law w n f b ok in let hi = o.1 in omega (arith, z, hi))
+    off_block o = law.apart (resolve w) f (planned_sizes w n f b) b (ForRegion r) ForMonitor a (λ e. cc) held (o.0, let z = monitor_size_is law planned in let hi = o.1 in omega (arith, z, hi))
 
     low : a < 0x40000000
     low = let x = in_ram.1 in let y = ok.board.ram_highest in let z = ok.board.ram_size.most in omega (arith, x, y, z)

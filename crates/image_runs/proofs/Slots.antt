@@ -11,13 +11,9 @@ use Rattle.machine_protection.specs.declared.words.Rights.TheVariants.{Device}
 use Rattle.machine_protection.specs.Regions.{holds}
 use Rattle.base_laws.specs.Lists.{Each}
 use Rattle.base_laws.proofs.Lists.{each_both}
-use Rattle.ir_model.specs.Plain.{PlainFirmware}
 use Rattle.ir_model.specs.Resolve.{resolve}
 use Rattle.ir_model.specs.Resolved.{Program}
-use Rattle.plan_model.specs.declared.needs.Needs.{Needs}
 use Rattle.plan_model.specs.declared.graph.Cover.{Cover}
-use Rattle.plan_model.specs.declared.graph.Final.{Final}
-use Rattle.plan_model.specs.declared.plan.Board.{Board}
 use Rattle.plan_model.specs.declared.plan.Plan.{Plan}
 use Rattle.plan_model.specs.Boards.{slots_of}
 use Rattle.plan_model.specs.Blocks.{block, region_bytes}
@@ -32,7 +28,8 @@ use Rattle.monitor_model.specs.declared.tables.CompRecord.{CompRecord}
 use Rattle.monitor_model.specs.Records.{compartment_at, nobody}
 use Rattle.image_model.specs.LinkedTables.{tables_of, comp_record}
 use Rattle.image_promises.specs.Planned.{planned_tables}
-use Rattle.plan.specs.PlannedFirmwares.{IsPlanned, plan}
+use Rattle.plan.specs.PlannedFirmwares.{plan}
+use Rattle.image_promises.proofs.PlannedPremises.{PlannedPremises, final_graph_of}
 use Rattle.image_promises.proofs.Ranges.{IsUse, block_in, block_size_is}
 use Rattle.image_promises.proofs.Lists.{each_passing, each_map, below_all}
 use Rattle.image_promises.proofs.Bearing.{use_region}
@@ -50,7 +47,9 @@ with_places : {X : Type 0} (P Q : X → Type 0) (xs : List X) (d : X) → Each P
 with_places P Q [] d e h = tt
 with_places P Q (x ∷ xs) d e h = ((e.0, h 0 (omega arith)), with_places P Q xs d e.1 (λ k l. h (suc k) (omega (arith, l))))
 
-module _ (law : OwnSlotLaws) (w : PlainFirmware) (n : Needs) (f : Final) (b : Board) (ok : IsPlanned w n f b) (ds : List Denied) (off : KeepsOff ds (resolve w) f) where
+module _ (law : OwnSlotLaws) (planned : PlannedPremises) (ds : List Denied) (off : KeepsOff ds (resolve planned.firmware) planned.final) where
+  open planned use {firmware as w, needs as n, final as f, board as b, is_planned as ok}
+
   abbrev p : Program
   p = resolve w
 
@@ -78,13 +77,13 @@ module _ (law : OwnSlotLaws) (w : PlainFirmware) (n : Needs) (f : Final) (b : Bo
     -- data lies lower
     data_serves : (r : ℕ) → (r < length f.regions) × (is_user c (region_at f.regions r) ≡ true) → Serves (data_slot p f l c r)
     data_serves r (lt, user) m number q =
-        let h : HoldsAddress p f (plan w n f b) (ForRegion r) a = (slot_holds law.globals law.held law.opened law.given w n f b ok c r a m lt number).0 q in
+        let h : HoldsAddress p f (plan w n f b) (ForRegion r) a = (slot_holds law.globals law.held law.opened law.given planned c r a m lt number).0 q in
         let u : IsUse f (ForRegion r) = record { of_globals = tt; there = lt } in
-        let inside = (block_in law.globals.plans w n f b ok (ForRegion r) u).0 in
+        let inside = (block_in law.globals.plans planned (ForRegion r) u).0 in
         let room = open_within (region_spot (plan w n f b) r).size (region_bytes p (region_at f.regions r).globals) in
         let x = h.1 in
         let y = inside.1 in
-        let has : (region_spot (plan w n f b) r).size ≡ block (region_bytes p (region_at f.regions r).globals) = block_size_is law.globals.plans w n f b ok (ForRegion r) u in
+        let has : (region_spot (plan w n f b) r).size ≡ block (region_bytes p (region_at f.regions r).globals) = block_size_is law.globals.plans planned (ForRegion r) u in
         let base = ok.board.ram_highest in
         let size = ok.board.ram_size.most in
         absurd (omega (arith, x, y, has, room, base, size, high))
@@ -108,7 +107,7 @@ module _ (law : OwnSlotLaws) (w : PlainFirmware) (n : Needs) (f : Final) (b : Bo
     module _ (runs : c < f.groups.count) where
       covers : Each (λ d. IsPart d × IsAllowed d) (get_or f.covers c [])
       covers =
-          with_places IsPart IsAllowed (get_or f.covers c []) no_cover (covers_are_parts p n f (slots_of b) ok.final (law.windows w ok.typed) c)
+          with_places IsPart IsAllowed (get_or f.covers c []) no_cover (covers_are_parts (final_graph_of planned) (law.windows w ok.typed) c)
           (λ k there lo hi. cover_is_allowed ds p f off c k no_cover runs there a lo hi)
 
       all_serve : Each Serves (slot_uses p f l c)

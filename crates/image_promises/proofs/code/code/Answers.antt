@@ -1,3 +1,4 @@
+use Rattle.image_promises.proofs.PlannedPremises.{planned_of}
 use Rattle.image_promises.proofs.Facts.{PlanLaws}
 use Rattle.image_promises.proofs.ReadBack.{ReadLaws}
 use Rattle.image_promises.proofs.CompartmentCode.{CodeLaws}
@@ -21,6 +22,6 @@ returns c =
       lengths = c.first_halfword_shows_length.ensures;
     } in
     record {
-      exact = code_exact law c.flash_has.ensures;
-      lies = λ code w n f b ok rules. code_stands law c.flash_has.ensures w n f b ok c.items.ensures rules;
+      exact = λ w n f b ok. code_exact law c.flash_has.ensures (planned_of ok);
+      lies = λ code w n f b ok rules. code_stands law c.flash_has.ensures (planned_of ok) c.items.ensures rules;
     }

@@ -1,3 +1,4 @@
+use Rattle.image_promises.proofs.PlannedPremises.{planned_of}
 use Rattle.image_promises.proofs.Facts.{PlanLaws}
 use Rattle.image_promises.proofs.Header.{header_passes}
 use Rattle.image_promises.proofs.flash.header.Goals as goal
@@ -5,4 +6,4 @@ use Rattle.image_promises.proofs.flash.header.Goals as goal
 pub returns : goal.returns
 returns c =
     let law : PlanLaws = record { flash = c.flash.ensures; apart = c.ram.ensures; there = c.places.ensures.there; inside = c.places.ensures.inside } in
-    header_passes law
+    λ w n f b ok. header_passes law (planned_of ok)

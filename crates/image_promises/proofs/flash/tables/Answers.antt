@@ -1,3 +1,4 @@
+use Rattle.image_promises.proofs.PlannedPremises.{planned_of}
 use Rattle.image_promises.proofs.Facts.{PlanLaws}
 use Rattle.image_promises.proofs.ReadBack.{ReadLaws}
 use Rattle.image_promises.proofs.TablesPass.{tables_pass}
@@ -7,4 +8,4 @@ pub returns : goal.returns
 returns c =
     let plans : PlanLaws = record { flash = c.flash.ensures; apart = c.ram.ensures; there = c.places.ensures.there; inside = c.places.ensures.inside } in
     let law : ReadLaws = record { plans = plans; code = c.compartments.ensures; counts = c.counts.ensures; pages = c.page_is_full.ensures.full } in
-    tables_pass law c.places-2.ensures
+    λ w n f b ok. tables_pass law c.places-2.ensures (planned_of ok)
