@@ -29,7 +29,7 @@ fn place_at(spot: CheckPlaceRef) -> Result<CheckPlace, AllocError>
     }
 }
 
-/// A fault of a kind at a place.
+/// That something is wrong there.
 pub fn fault(kind: CheckKind, spot: CheckPlaceRef) -> CheckFault
     ensures { IsFault result kind (place_of spot.entry) }
 {
@@ -39,7 +39,7 @@ pub fn fault(kind: CheckKind, spot: CheckPlaceRef) -> CheckFault
     }
 }
 
-/// The fault of a missing name.
+/// That a name is not there.
 pub fn unknown(name: &Name, spot: CheckPlaceRef) -> CheckFault
     ensures { IsFault result (CheckKind.Unknown name.now) (place_of spot.entry) }
 {
@@ -49,7 +49,7 @@ pub fn unknown(name: &Name, spot: CheckPlaceRef) -> CheckFault
     }
 }
 
-/// The fault of a repeated name.
+/// That a name is there already.
 pub fn twice(name: &Name, spot: CheckPlaceRef) -> CheckFault
     ensures { IsFault result (CheckKind.Twice name.now) (place_of spot.entry) }
 {

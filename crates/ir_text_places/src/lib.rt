@@ -1,4 +1,4 @@
-//! Where in the text of a firmware the item whose check fails stands.
+//! Where in the text of a firmware the item stands whose check fails.
 #![tactic(auto)]
 
 mod before;
