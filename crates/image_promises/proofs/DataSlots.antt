@@ -94,7 +94,15 @@ few_bits size bytes = by (has_eighths size)
 
 -- ---- the slots of data regions
 
-module _ (law : GlobalLaws) (held : RegionsHoldTheirBlocks) (opened : OpenEighthsAreHeld) (given : RegionsGiveTheirRights) (planned : PlannedPremises) where
+-- what they rest on
+pub record DataLaws : Type 0 where
+  pub globals : GlobalLaws
+  pub held : RegionsHoldTheirBlocks
+  pub opened : OpenEighthsAreHeld
+  pub given : RegionsGiveTheirRights
+
+module _ (laws : DataLaws) (planned : PlannedPremises) where
+  open laws use {globals as law, held, opened, given}
   open planned use {firmware as w, needs as n, final as f, board as b}
 
   abbrev p : Program

@@ -27,13 +27,13 @@ module _ (law : SlotLaws) (loans : LoansAreKept) (code : MonitorCode) (planned :
   p = resolve w
 
   abbrev place : ℕ → ℕ
-  place x = address law.globals planned x
+  place x = address law.of_data.globals planned x
 
   -- on an open board all of RAM may be loaded
   open_loads : b.closed ≡ false → (c x j : ℕ) → x < length p.globals → j < global_size p x → may_load (planned_image w n f b) (planned_tables w n f b) c (place x + j) ≡ true
   unfolding linked
   open_loads kind c x j there k =
-      let ram = in_ram law.globals planned x there in
+      let ram = in_ram law.of_data.globals planned x there in
       let low = ram.0 in
       let high = ram.1 in
       let same : b.ram_base + (place x + j - b.ram_base) ≡ place x + j = omega (arith, low) in
@@ -51,15 +51,15 @@ module _ (law : SlotLaws) (loans : LoansAreKept) (code : MonitorCode) (planned :
 pub globals_are_placed : SlotLaws → LoansAreKept → GlobalsArePlaced
 unfolding linked tables_of global_starts
 globals_are_placed law loans code w n f b ok =
-    let at = address_is law.globals (planned_of ok) in
+    let at = address_is law.of_data.globals (planned_of ok) in
     record {
-      count = count_is law.globals (planned_of ok);
-      from_base = λ x m. let e = at x m in let ram = (in_ram law.globals (planned_of ok) x m).0 in omega (arith, e, ram);
-      to_end = λ x m. let e = at x m in let ram = (in_ram law.globals (planned_of ok) x m).1 in omega (arith, e, ram);
-      inside = inside law.globals (planned_of ok);
-      aligned = aligned law.globals (planned_of ok);
-      laid = all_laid law.globals (planned_of ok);
-      off = off law.globals (planned_of ok);
+      count = count_is law.of_data.globals (planned_of ok);
+      from_base = λ x m. let e = at x m in let ram = (in_ram law.of_data.globals (planned_of ok) x m).0 in omega (arith, e, ram);
+      to_end = λ x m. let e = at x m in let ram = (in_ram law.of_data.globals (planned_of ok) x m).1 in omega (arith, e, ram);
+      inside = inside law.of_data.globals (planned_of ok);
+      aligned = aligned law.of_data.globals (planned_of ok);
+      laid = all_laid law.of_data.globals (planned_of ok);
+      off = off law.of_data.globals (planned_of ok);
       loads = λ g x j m i there k. subst (λ a. may_load (planned_image w n f b) (planned_tables w n f b) (compartment_of f.groups g) (a + j) ≡ true) (sym (at x there)) (loads law loans code (planned_of ok) g x j m i there k);
       stores = λ g x j m i there k. subst (λ a. may_store (planned_tables w n f b) (compartment_of f.groups g) (a + j) ≡ true) (sym (at x there)) (stores law (planned_of ok) g x j m i there k);
     }

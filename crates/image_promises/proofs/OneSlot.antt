@@ -4,22 +4,17 @@ use Rattle.std.proofs.lemmas.Bool.{ltb-true}
 use Rattle.machine_model.specs.Confinement.{AnyOf}
 use Rattle.machine_protection.specs.declared.region.Region.{Region}
 use Rattle.machine_protection.specs.Regions.{holds}
-use Rattle.machine_protection.specs.Laws.{RegionsHoldTheirBlocks, RegionsGiveTheirRights}
-use Rattle.machine_protection.specs.Configured.{OpenEighthsAreHeld}
 use Rattle.base_laws.specs.Lists.{Each}
 use Rattle.ir_laws.specs.Limits.{WindowsLieApart}
 use Rattle.plan_model.specs.Blocks.{has_eighths, open_eighths}
 use Rattle.plan_model.specs.Slots.{SlotUse, free_slot, slots_from}
 use Rattle.plan_layout_laws.specs.RamLaws.{open_bytes}
 use Rattle.image_promises.proofs.Bearing.{use_region}
-use Rattle.image_promises.proofs.GlobalPlaces.{GlobalLaws}
+use Rattle.image_promises.proofs.DataSlots.{DataLaws}
 
 -- what slots rest on, with no count of them
 pub record OwnSlotLaws : Type 0 where
-  pub globals : GlobalLaws
-  pub held : RegionsHoldTheirBlocks
-  pub opened : OpenEighthsAreHeld
-  pub given : RegionsGiveTheirRights
+  pub of_data : DataLaws
   pub windows : WindowsLieApart
 
 pub free_holds : (a number : ℕ) → holds (free_slot number) a ≡ false

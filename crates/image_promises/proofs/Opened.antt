@@ -7,8 +7,6 @@ use mathlib.Core.Logic.{⊎_elim}
 use Rattle.machine_protection.specs.declared.region.Region.{Region}
 use Rattle.machine_protection.specs.Regions.{holds}
 use Rattle.machine_protection.specs.Protection.{deciding}
-use Rattle.machine_protection.specs.Configured.{OpenEighthsAreHeld}
-use Rattle.machine_protection.specs.Laws.{RegionsHoldTheirBlocks, RegionsGiveTheirRights}
 use Rattle.base_laws.specs.Lists.{Each}
 use Rattle.ir_model.specs.declared.object.ObjId.TheVariants.{Global}
 use Rattle.ir_model.specs.Resolve.{resolve}
@@ -38,16 +36,13 @@ use Rattle.image_promises.proofs.Reach.{one_of, has_listed}
 use Rattle.std.proofs.lemmas.List.FromFn.{get_or-map-range_with_len}
 use Rattle.image_promises.proofs.Lists.{passing_among, each_passing, below_all}
 use Rattle.image_promises.proofs.FinalRegions as regions
-use Rattle.image_promises.proofs.GlobalPlaces.{GlobalLaws, address, aligns}
-use Rattle.image_promises.proofs.DataSlots.{written_data, borne_data}
+use Rattle.image_promises.proofs.GlobalPlaces.{address, aligns}
+use Rattle.image_promises.proofs.DataSlots.{DataLaws, written_data, borne_data}
 use Rattle.image_promises.proofs.WindowsOpen.{FitsSlots}
 
 -- what slots rest on
 pub record SlotLaws : Type 0 where
-  pub globals : GlobalLaws
-  pub held : RegionsHoldTheirBlocks
-  pub opened : OpenEighthsAreHeld
-  pub given : RegionsGiveTheirRights
+  pub of_data : DataLaws
   pub few : FitsSlots
 
 module _ (law : SlotLaws) (planned : PlannedPremises) where
@@ -60,7 +55,7 @@ module _ (law : SlotLaws) (planned : PlannedPremises) where
   l = plan w n f b
 
   abbrev place : ℕ → ℕ
-  place x = address law.globals planned x
+  place x = address law.of_data.globals planned x
 
   -- ---- a compartment's slots
 
@@ -95,7 +90,7 @@ module _ (law : SlotLaws) (planned : PlannedPremises) where
     region_stores writer =
         ap (λ gs. allows_stores (deciding gs a)) (slots_at c there)
         ∙ written_stores a (slot_uses p f l c) 4 (slots_of b)
-        (written_data law.globals law.held law.opened law.given planned c a r region it writer (regions_used f.regions c) (get_or f.covers c []) used_below
+        (written_data law.of_data planned c a r region it writer (regions_used f.regions c) (get_or f.covers c []) used_below
         (used (or_left (has (region_at f.regions r).writers c) (has (region_at f.regions r).readers c) writer)))
         (uses_few c there) slots_are.1
 
@@ -106,13 +101,13 @@ module _ (law : SlotLaws) (planned : PlannedPremises) where
         (or_left (list_any (λ (g : Region). holds g a) (compartment_at (planned_tables w n f b) c).slots) _
         (ap (list_any (λ (g : Region). holds g a)) (slots_at c there)
         ∙ borne_holds a (slot_uses p f l c) 4 (slots_of b)
-        (borne_data law.globals law.held law.opened law.given planned c a r region it (regions_used f.regions c) (get_or f.covers c []) (used user))
+        (borne_data law.of_data planned c a r region it (regions_used f.regions c) (get_or f.covers c []) (used user))
         (uses_few c there) slots_are.1))
 
   -- ---- a function's needs
 
   held_at : (x j r : ℕ) → j < global_size p x → r < length f.regions → has (region_at f.regions r).globals x ≡ true → HoldsAddress p f l (ForRegion r) (place x + j)
-  held_at x j r k h i = (law.globals.held p f (planned_sizes w n f b) b ok.board ok.fits (aligns law.globals planned) x j k).0 r (regions.region_is (final_graph_of planned) r x h i)
+  held_at x j r k h i = (law.of_data.globals.held p f (planned_sizes w n f b) b ok.board ok.fits (aligns law.of_data.globals planned) x j k).0 r (regions.region_is (final_graph_of planned) r x h i)
 
   pub stores : (g x j : ℕ) → g < length p.funcs → IsListed (need_of n g).written (GlobalObject x) → x < length p.globals → j < global_size p x
       → may_store (planned_tables w n f b) (compartment_of f.groups g) (place x + j) ≡ true

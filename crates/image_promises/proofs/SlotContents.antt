@@ -91,14 +91,14 @@ module _ (law : SlotLaws) (windows : WindowsLieApart) (planned : PlannedPremises
   -- ---- data
 
   alone : (a r : ℕ) → HoldsAddress p f l (ForRegion r) a → (u : RamUse) → HoldsAddress p f l u a → u ≡ ForRegion r
-  alone a r held ForStack h = absurd (law.globals.plans.apart p f s b ForStack (ForRegion r) a (λ e. cc) h held)
-  alone a r held ForMonitor h = absurd (law.globals.plans.apart p f s b ForMonitor (ForRegion r) a (λ e. cc) h held)
-  alone a r held (ForRegion q) h = ⊎_elim (λ e. e) (λ d. absurd (law.globals.plans.apart p f s b (ForRegion q) (ForRegion r) a d h held)) (same_or_other (ForRegion q) (ForRegion r) tt tt)
-  alone a r held ForUnwritten h = absurd (law.globals.plans.apart p f s b ForUnwritten (ForRegion r) a (λ e. cc) h held)
+  alone a r held ForStack h = absurd (law.of_data.globals.plans.apart p f s b ForStack (ForRegion r) a (λ e. cc) h held)
+  alone a r held ForMonitor h = absurd (law.of_data.globals.plans.apart p f s b ForMonitor (ForRegion r) a (λ e. cc) h held)
+  alone a r held (ForRegion q) h = ⊎_elim (λ e. e) (λ d. absurd (law.of_data.globals.plans.apart p f s b (ForRegion q) (ForRegion r) a d h held)) (same_or_other (ForRegion q) (ForRegion r) tt tt)
+  alone a r held ForUnwritten h = absurd (law.of_data.globals.plans.apart p f s b ForUnwritten (ForRegion r) a (λ e. cc) h held)
 
   in_data : (may : ObjId → Bool) (a r : ℕ) → r < length f.regions → HoldsAddress p f l (ForRegion r) a → ((x : ℕ) → has (region_at f.regions r).globals x ≡ true → may (Global x) ≡ true) → IsInData w n f b may a
   in_data may a r lt held may_global =
-      let inside = ranges.inside law.globals.plans planned r lt in
+      let inside = ranges.inside law.of_data.globals.plans planned r lt in
       let low = inside.0 in
       let high = inside.1 in
       let from = held.0 in
@@ -116,8 +116,8 @@ module _ (law : SlotLaws) (windows : WindowsLieApart) (planned : PlannedPremises
     where
       one : (x : ℕ) → x < length p.globals → IsByteOf w n f b x a → may (Global x) ≡ true
       one x m byte =
-          let i = placed law.globals planned x m in
-          let same = alone a r held i.use_of (byte_held law.globals planned x i a (record { low = byte.0; high = byte.1 })) in
+          let i = placed law.of_data.globals planned x m in
+          let same = alone a r held i.use_of (byte_held law.of_data.globals planned x i a (record { low = byte.0; high = byte.1 })) in
           may_global x (subst (λ u. has (globals_for f u) x ≡ true) same i.has_it)
 
   -- ---- peripherals
@@ -129,7 +129,7 @@ module _ (law : SlotLaws) (windows : WindowsLieApart) (planned : PlannedPremises
       let exact = part.size in
       let least = pow_mono {i = 5} {j = part.power} part.least in
       let most = pow_mono {i = part.power} {j = 29} part.most in
-      let i = (law.held m d.base d.size 0 Device number (part.power, exact) (omega (arith, exact, least)) (omega (arith, exact, most)) (subst (λ z. d.base % z ≡ 0) (sym exact) part.aligned) (lit< tt) a).0 h in
+      let i = (law.of_data.held m d.base d.size 0 Device number (part.power, exact) (omega (arith, exact, least)) (omega (arith, exact, most)) (subst (λ z. d.base % z ≡ 0) (sym exact) part.aligned) (lit< tt) a).0 h in
       let whole : (q z : ℕ) → q < length p.periphs → IsOf (cover_of p q) z → IsOf d z → is_inside (cover_of p q) d ≡ true = whole_inside p apart_windows d filled in
       record {
         holds = (i.from_base, i.below_end);
@@ -152,7 +152,7 @@ module _ (law : SlotLaws) (windows : WindowsLieApart) (planned : PlannedPremises
 
     data_serves : (r : ℕ) → (r < length f.regions) × (is_user c (region_at f.regions r) ≡ true) → Serves (data_slot p f l c r)
     data_serves r (lt, user) m number q =
-        InData (in_data may a r lt ((slot_holds law.globals law.held law.opened law.given planned c r a m lt number).0 (holds_it (use_region m (data_slot p f l c r)) q)) (may_global r m user lt q))
+        InData (in_data may a r lt ((slot_holds law.of_data planned c r a m lt number).0 (holds_it (use_region m (data_slot p f l c r)) q)) (may_global r m user lt q))
 
     used : Each (λ r. (r < length f.regions) × (is_user c (region_at f.regions r) ≡ true)) (regions_used f.regions c)
     used =
@@ -220,7 +220,7 @@ module _ (law : SlotLaws) (windows : WindowsLieApart) (planned : PlannedPremises
       by true e = e
       by false e =
           let off = ap (λ t. allows (region_of m spot.base spot.size out (cond t Ram Background)) true Write) e
-          ∙ law.given m spot.base spot.size out Background (few_bits spot.size (region_bytes p (region_at f.regions r).globals)) true Write in
+          ∙ law.of_data.given m spot.base spot.size out Background (few_bits spot.size (region_bytes p (region_at f.regions r).globals)) true Write in
           absurd (let wrong : true ≡ false = sym lets ∙ off in cc)
 
   write_global : (c r x : ℕ) → r < length f.regions → has (region_at f.regions r).writers c ≡ true → has (region_at f.regions r).globals x ≡ true → may_write p n f c (Global x) ≡ true

@@ -68,7 +68,7 @@ module _ (law : OwnSlotLaws) (planned : PlannedPremises) where
       region = r;
       there = lt;
       mine = is_mine r m user q;
-      held = (slot_holds law.globals law.held law.opened law.given planned c r a m lt number).0 (holds_it (use_region m (data_slot p f l c r)) q);
+      held = (slot_holds law.of_data planned c r a m lt number).0 (holds_it (use_region m (data_slot p f l c r)) q);
     }
 
     used : Each (λ r. (r < length f.regions) × (is_user c (region_at f.regions r) ≡ true)) (regions_used f.regions c)
@@ -82,7 +82,7 @@ module _ (law : OwnSlotLaws) (planned : PlannedPremises) where
         let exact = part.size in
         let least = pow_mono {i = 5} {j = part.power} part.least in
         let most = pow_mono {i = part.power} {j = 29} part.most in
-        let i = (law.held m d.base d.size 0 Device number (part.power, exact) (omega (arith, exact, least)) (omega (arith, exact, most)) (subst (λ z. d.base % z ≡ 0) (sym exact) part.aligned) (lit< tt) a).0 (holds_it (use_region m (cover_slot d)) q) in
+        let i = (law.of_data.held m d.base d.size 0 Device number (part.power, exact) (omega (arith, exact, least)) (omega (arith, exact, most)) (subst (λ z. d.base % z ≡ 0) (sym exact) part.aligned) (lit< tt) a).0 (holds_it (use_region m (cover_slot d)) q) in
         absurd (let x = part.from in let y = i.from_base in omega (arith, x, y, low))
 
     all_serve : Each Serves (slot_uses p f l c)
@@ -127,7 +127,7 @@ module _ (law : OwnSlotLaws) (planned : PlannedPremises) where
       by true e = e
       by false e =
           let off = ap (λ t. allows (region_of m spot.base spot.size out (cond t Ram Background)) true Write) e
-          ∙ law.given m spot.base spot.size out Background (few_bits spot.size (region_bytes p (region_at f.regions r).globals)) true Write in
+          ∙ law.of_data.given m spot.base spot.size out Background (few_bits spot.size (region_bytes p (region_at f.regions r).globals)) true Write in
           absurd (let wrong : true ≡ false = sym lets ∙ off in cc)
 
   slots_are_own : SlotsAreOwn w n f b

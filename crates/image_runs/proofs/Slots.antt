@@ -77,13 +77,13 @@ module _ (law : OwnSlotLaws) (planned : PlannedPremises) (ds : List Denied) (off
     -- data lies lower
     data_serves : (r : ℕ) → (r < length f.regions) × (is_user c (region_at f.regions r) ≡ true) → Serves (data_slot p f l c r)
     data_serves r (lt, user) m number q =
-        let h : HoldsAddress p f (plan w n f b) (ForRegion r) a = (slot_holds law.globals law.held law.opened law.given planned c r a m lt number).0 q in
+        let h : HoldsAddress p f (plan w n f b) (ForRegion r) a = (slot_holds law.of_data planned c r a m lt number).0 q in
         let u : IsUse f (ForRegion r) = record { of_globals = tt; there = lt } in
-        let inside = (block_in law.globals.plans planned (ForRegion r) u).0 in
+        let inside = (block_in law.of_data.globals.plans planned (ForRegion r) u).0 in
         let room = open_within (region_spot (plan w n f b) r).size (region_bytes p (region_at f.regions r).globals) in
         let x = h.1 in
         let y = inside.1 in
-        let has : (region_spot (plan w n f b) r).size ≡ block (region_bytes p (region_at f.regions r).globals) = block_size_is law.globals.plans planned (ForRegion r) u in
+        let has : (region_spot (plan w n f b) r).size ≡ block (region_bytes p (region_at f.regions r).globals) = block_size_is law.of_data.globals.plans planned (ForRegion r) u in
         let base = ok.board.ram_highest in
         let size = ok.board.ram_size.most in
         absurd (omega (arith, x, y, has, room, base, size, high))
@@ -101,7 +101,7 @@ module _ (law : OwnSlotLaws) (planned : PlannedPremises) (ds : List Denied) (off
         let exact = part.size in
         let least = pow_mono {i = 5} {j = part.power} part.least in
         let most = pow_mono {i = part.power} {j = 29} part.most in
-        let i = (law.held m d.base d.size 0 Device number (part.power, exact) (omega (arith, exact, least)) (omega (arith, exact, most)) (subst (λ z. d.base % z ≡ 0) (sym exact) part.aligned) (lit< tt) a).0 q in
+        let i = (law.of_data.held m d.base d.size 0 Device number (part.power, exact) (omega (arith, exact, least)) (omega (arith, exact, most)) (subst (λ z. d.base % z ≡ 0) (sym exact) part.aligned) (lit< tt) a).0 q in
         allowed i.from_base i.below_end
 
     module _ (runs : c < f.groups.count) where
