@@ -3,7 +3,6 @@
 ghost use Rattle.std.specs.Prelude.{◌≡◌, ◌++◌, map, None, OnOk};
 ghost use Rattle.base_names.specs.Numbers.{has};
 ghost use Rattle.ir_model.specs.declared.firmware.Peripheral.{Peripheral as PlainPeripheral};
-ghost use Rattle.ir_model.specs.declared.types.Ty.{U32};
 ghost use Rattle.ir_model.specs.Types.{type_of, Pointer, element_of};
 ghost use Rattle.ir_model.specs.Plain.{binding_of, func_of, firmware_of};
 ghost use Rattle.ir_model.specs.Resolve.{row_from};
@@ -36,7 +35,6 @@ pub(crate) fn put_register(
     site: &Site<'_>,
     register: &Name,
 ) -> Result<(), AllocError>
-    requires { site.now.number.now ≡ U32 }
     ensures { OnOk result (out.new.items ≡ out.old.items ++ lines.found_register (func_of site.now.func.now) register.now) }
 {
     put_found_typed(out, register.as_slice(), register_type(site, register))
@@ -48,7 +46,6 @@ pub(crate) fn put_number(
     site: &Site<'_>,
     register: &Name,
 ) -> Result<(), AllocError>
-    requires { site.now.number.now ≡ U32 }
     ensures { OnOk result (out.new.items ≡ out.old.items ++ lines.number_lines (func_of site.now.func.now) register.now) }
 {
     put_register(out, site, register)?;
@@ -63,7 +60,6 @@ pub(crate) fn put_numbers(
     a: &Name,
     b: &Name,
 ) -> Result<(), AllocError>
-    requires { site.now.number.now ≡ U32 }
     ensures { OnOk result (out.new.items ≡ out.old.items ++ lines.numbers_lines (func_of site.now.func.now) to.now a.now b.now) }
 {
     if !is_number(site, to) {
@@ -82,7 +78,6 @@ pub(crate) fn put_move(
     to: &Name,
     from: &Name,
 ) -> Result<(), AllocError>
-    requires { site.now.number.now ≡ U32 }
     ensures { OnOk result (out.new.items ≡ out.old.items ++ lines.move_lines (func_of site.now.func.now) to.now from.now) }
 {
     put_register(out, site, from)?;
@@ -119,7 +114,6 @@ pub(crate) fn put_addr(
     to: &Name,
     of: &Name,
 ) -> Result<(), AllocError>
-    requires { site.now.number.now ≡ U32 }
     ensures { OnOk result (out.new.items ≡ out.old.items ++ lines.addr_lines (firmware_of site.now.firmware.now) (func_of site.now.func.now) to.now of.now) }
 {
     put_register(out, site, to)?;
@@ -193,7 +187,6 @@ pub(crate) fn put_faddr(
     to: &Name,
     of: &Name,
 ) -> Result<(), AllocError>
-    requires { site.now.number.now ≡ U32 }
     ensures { OnOk result (out.new.items ≡ out.old.items ++ lines.faddr_lines (firmware_of site.now.firmware.now) (func_of site.now.func.now) to.now of.now) }
 {
     put_register(out, site, to)?;
@@ -213,7 +206,6 @@ fn put_expected_element(out: &mut Vec<u8>, target: &Ty) -> Result<(), AllocError
 
 /// Puts the lines of a base that is no pointer.
 fn put_no_pointer(out: &mut Vec<u8>, site: &Site<'_>, base: &Name) -> Result<(), AllocError>
-    requires { site.now.number.now ≡ U32 }
     ensures { OnOk result (out.new.items ≡ out.old.items ++ lines.no_pointer_lines (func_of site.now.func.now) base.now) }
 {
     put_register(out, site, base)?;
@@ -228,7 +220,6 @@ fn put_element(
     base: &Name,
     ty: &Ty,
 ) -> Result<(), AllocError>
-    requires { site.now.number.now ≡ U32 }
     ensures { OnOk result (out.new.items ≡ out.old.items ++ lines.element_lines (func_of site.now.func.now) to.now base.now (type_of ty.now)) }
 {
     match ty {
@@ -249,7 +240,6 @@ pub(crate) fn put_elem(
     base: &Name,
     index: &Name,
 ) -> Result<(), AllocError>
-    requires { site.now.number.now ≡ U32 }
     ensures { OnOk result (out.new.items ≡ out.old.items ++ lines.elem_lines (func_of site.now.func.now) to.now base.now index.now) }
 {
     if !is_number(site, index) {
@@ -303,7 +293,6 @@ fn put_struct_field(
     field: &Name,
     fields: &[Binding],
 ) -> Result<(), AllocError>
-    requires { site.now.number.now ≡ U32 }
     ensures { OnOk result (out.new.items ≡ out.old.items ++ lines.struct_field_lines (func_of site.now.func.now) to.now field.now (map binding_of fields.now)) }
 {
     match binding_named(fields, field.as_slice()) {
@@ -323,7 +312,6 @@ fn put_field_of(
     field: &Name,
     of: &Name,
 ) -> Result<(), AllocError>
-    requires { site.now.number.now ≡ U32 }
     ensures { OnOk result (out.new.items ≡ out.old.items ++ lines.of_struct_lines (func_of site.now.func.now) to.now field.now (found.struct_named (firmware_of site.now.firmware.now).structs of.now)) }
 {
     match struct_named(site.firmware.structs.as_slice(), of.as_slice()) {
@@ -334,7 +322,6 @@ fn put_field_of(
 
 /// Puts the lines of a base that is no pointer to a struct.
 fn put_no_struct(out: &mut Vec<u8>, site: &Site<'_>, base: &Name) -> Result<(), AllocError>
-    requires { site.now.number.now ≡ U32 }
     ensures { OnOk result (out.new.items ≡ out.old.items ++ lines.no_struct_lines (func_of site.now.func.now) base.now) }
 {
     put_register(out, site, base)?;
@@ -350,7 +337,6 @@ pub(crate) fn put_field(
     field: &Name,
     ty: &Ty,
 ) -> Result<(), AllocError>
-    requires { site.now.number.now ≡ U32 }
     ensures { OnOk result (out.new.items ≡ out.old.items ++ lines.field_lines (firmware_of site.now.firmware.now) (func_of site.now.func.now) to.now base.now field.now (type_of ty.now)) }
 {
     match ty {
@@ -366,7 +352,6 @@ pub(crate) fn put_field(
 
 /// Puts the lines of a pointer to no cell that a register can hold.
 fn put_no_cell(out: &mut Vec<u8>, site: &Site<'_>, pointer: &Name) -> Result<(), AllocError>
-    requires { site.now.number.now ≡ U32 }
     ensures { OnOk result (out.new.items ≡ out.old.items ++ lines.no_cell_lines (func_of site.now.func.now) pointer.now) }
 {
     put_register(out, site, pointer)?;
@@ -375,7 +360,6 @@ fn put_no_cell(out: &mut Vec<u8>, site: &Site<'_>, pointer: &Name) -> Result<(),
 
 /// Puts the lines of a register that had to be of a type.
 fn put_other(out: &mut Vec<u8>, site: &Site<'_>, register: &Name, ty: &Ty) -> Result<(), AllocError>
-    requires { site.now.number.now ≡ U32 }
     ensures { OnOk result (out.new.items ≡ out.old.items ++ (lines.found_register (func_of site.now.func.now) register.now ++ words.expected_type (type_of ty.now))) }
 {
     put_register(out, site, register)?;
@@ -390,7 +374,6 @@ fn put_cell(
     register: &Name,
     ty: &Ty,
 ) -> Result<(), AllocError>
-    requires { site.now.number.now ≡ U32 }
     ensures { OnOk result (out.new.items ≡ out.old.items ++ lines.cell_lines (func_of site.now.func.now) pointer.now register.now (type_of ty.now)) }
 {
     match ty {
@@ -416,7 +399,6 @@ pub(crate) fn put_access(
     pointer: &Name,
     register: &Name,
 ) -> Result<(), AllocError>
-    requires { site.now.number.now ≡ U32 }
     ensures { OnOk result (out.new.items ≡ out.old.items ++ lines.access_lines (func_of site.now.func.now) pointer.now register.now) }
 {
     put_cell(out, site, pointer, register, register_type(site, pointer))
