@@ -1,6 +1,6 @@
 //! The symbols of a firmware on a board by a policy.
 
-ghost use Rattle.std.specs.Prelude.{◌≡◌, IfOk, IfErr};
+ghost use Rattle.std.specs.Prelude.{◌≡◌, IfOk, IfErr, length};
 ghost use Rattle.ir_model.specs.Plain.{firmware_of};
 ghost use Rattle.ir_model.specs.Resolve.{resolve};
 ghost use Rattle.ir_program.specs.Seen.{program_of};
@@ -26,7 +26,8 @@ fn symbols_of_plan(
     made: &PlannedFirmware,
     board: &Board,
 ) -> Result<Vec<u8>, AllocError>
-    requires { program_of analysis.now.program ≡ resolve (firmware_of firmware.now) }
+    requires program { program_of analysis.now.program ≡ resolve (firmware_of firmware.now) }
+    requires each { length made.now.graph.groups.of ≡ length analysis.now.needs.funcs }
     ensures { IfOk result (λ lines. lines.items ≡ symbols_for (firmware_of firmware.now) analysis.now.needs made.now board.now) }
 {
     let subject = Subject {

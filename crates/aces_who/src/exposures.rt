@@ -1,6 +1,6 @@
 //! The lines of what compartments reach without need.
 
-ghost use Rattle.std.specs.Prelude.{◌≡◌, ◌++◌, ◌&&◌, IfOk, OnOk, codes, flat_map, length, not};
+ghost use Rattle.std.specs.Prelude.{◌≡◌, ◌++◌, ◌&&◌, IfOk, OnOk, codes, flat_map, not};
 ghost use Rattle.std.specs.Fmt.{decimal};
 ghost use Rattle.ir_program.specs.Seen.{program_of};
 ghost use Rattle.plan_model.specs.Groups as sets;
@@ -57,7 +57,6 @@ fn put_unneeded(
     access: Access,
     region: &DataRegion,
 ) -> Result<(), AllocError>
-    requires { length subject.now.graph.now.groups.of ≡ length subject.now.needs.now.funcs }
     ensures { OnOk result (text.new ≡ text.old ++ flat_map (lines.exposed_global_line (subject_of subject.now) compartment access) (exposed.unneeded (subject_of subject.now) compartment access region.now)) }
 {
     let globals = region.globals.as_slice();
@@ -78,7 +77,6 @@ fn put_globals(
     compartment: u32,
     access: Access,
 ) -> Result<(), AllocError>
-    requires { length subject.now.graph.now.groups.of ≡ length subject.now.needs.now.funcs }
     ensures { OnOk result (text.new ≡ text.old ++ lines.exposed_global_lines (subject_of subject.now) compartment access) }
 {
     let regions = subject.graph.regions.as_slice();
@@ -94,7 +92,6 @@ fn put_globals(
 /// Puts the lines of the globals that are exposed to loads, on a closed board.
 #[tactic(auto, unfolding(crate::specs::WhoLines::exposed_read_lines))]
 fn put_reads(text: &mut Text, subject: &Subject<'_>, compartment: u32) -> Result<(), AllocError>
-    requires { length subject.now.graph.now.groups.of ≡ length subject.now.needs.now.funcs }
     ensures { OnOk result (text.new ≡ text.old ++ lines.exposed_read_lines (subject_of subject.now) compartment) }
 {
     if subject.board.closed {
@@ -123,7 +120,6 @@ fn put_periph(
 
 /// Whether a peripheral lies in a range of a compartment though none of its functions uses it.
 fn is_unused(subject: &Subject<'_>, compartment: u32, periph: u32) -> bool
-    requires { length subject.now.graph.now.groups.of ≡ length subject.now.needs.now.funcs }
     ensures { result ≡ (permission.is_covered (program_of subject.now.program.now) subject.now.graph.now compartment periph && not (sets.uses subject.now.needs.now subject.now.graph.now.groups compartment periph)) }
 {
     may_use(subject, compartment, periph)
@@ -133,7 +129,6 @@ fn is_unused(subject: &Subject<'_>, compartment: u32, periph: u32) -> bool
 /// Puts the lines of the peripherals in a compartment's ranges that none of its functions uses.
 #[tactic(auto, unfolding(crate::specs::WhoLines::exposed_periph_lines))]
 fn put_periphs(text: &mut Text, subject: &Subject<'_>, compartment: u32) -> Result<(), AllocError>
-    requires { length subject.now.graph.now.groups.of ≡ length subject.now.needs.now.funcs }
     ensures { OnOk result (text.new ≡ text.old ++ lines.exposed_periph_lines (subject_of subject.now) compartment) }
 {
     let Ok(count) = u32::try_from(subject.program.periphs.len()) else {
@@ -164,7 +159,6 @@ pub(crate) fn put_exposures(
     subject: &Subject<'_>,
     compartment: u32,
 ) -> Result<(), AllocError>
-    requires { length subject.now.graph.now.groups.of ≡ length subject.now.needs.now.funcs }
     ensures { OnOk result (text.new ≡ text.old ++ lines.exposure_lines (subject_of subject.now) compartment) }
 {
     let words = undeclared_words(alloc, compartment)?;

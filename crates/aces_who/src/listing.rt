@@ -1,6 +1,6 @@
 //! All lines.
 
-ghost use Rattle.std.specs.Prelude.{◌≡◌, ◌++◌, OnOk, IfOk, length};
+ghost use Rattle.std.specs.Prelude.{◌≡◌, ◌++◌, OnOk, IfOk};
 ghost use Rattle.plan_report.specs.Subjects.{subject_of};
 ghost use Rattle.aces_who.specs.WhoLines as lines;
 
@@ -44,7 +44,6 @@ fn put_compartments(
 /// Puts the lines of all globals.
 #[tactic(auto, unfolding(crate::specs::WhoLines::all_global_lines))]
 fn put_globals(text: &mut Text, subject: &Subject<'_>) -> Result<(), AllocError>
-    requires { length subject.now.graph.now.groups.of ≡ length subject.now.needs.now.funcs }
     ensures { OnOk result (text.new ≡ text.old ++ lines.all_global_lines (subject_of subject.now)) }
 {
     for global in 0..counted(subject.program.globals.len())? {
@@ -56,7 +55,6 @@ fn put_globals(text: &mut Text, subject: &Subject<'_>) -> Result<(), AllocError>
 /// Puts the lines of all peripherals.
 #[tactic(auto, unfolding(crate::specs::WhoLines::all_periph_lines))]
 fn put_periphs(text: &mut Text, subject: &Subject<'_>) -> Result<(), AllocError>
-    requires { length subject.now.graph.now.groups.of ≡ length subject.now.needs.now.funcs }
     ensures { OnOk result (text.new ≡ text.old ++ lines.all_periph_lines (subject_of subject.now)) }
 {
     for periph in 0..counted(subject.program.periphs.len())? {
@@ -72,7 +70,6 @@ fn put_all_exposures(
     text: &mut Text,
     subject: &Subject<'_>,
 ) -> Result<(), AllocError>
-    requires { length subject.now.graph.now.groups.of ≡ length subject.now.needs.now.funcs }
     ensures { OnOk result (text.new ≡ text.old ++ lines.all_exposure_lines (subject_of subject.now)) }
 {
     for compartment in 0..subject.graph.groups.count {
@@ -98,7 +95,6 @@ fn put_all(
     subject: &Subject<'_>,
     policy: Policy,
 ) -> Result<(), AllocError>
-    requires { length subject.now.graph.now.groups.of ≡ length subject.now.needs.now.funcs }
     ensures { OnOk result (text.new ≡ text.old ++ lines.who_lines (subject_of subject.now) policy) }
 {
     put_compartments(text, subject, policy)?;
@@ -108,7 +104,7 @@ fn put_all(
     put_calls(text, subject)
 }
 
-/// The lines of a firmware on a board, whose compartments are those of the policy. They are of as many functions as the needs.
+/// The lines of a firmware on a board, whose compartments are those of the policy.
 ///
 /// # Errors
 ///
@@ -119,7 +115,6 @@ pub fn who_lines(
     subject: &Subject<'_>,
     policy: Policy,
 ) -> Result<Vec<u8>, AllocError>
-    requires { length subject.now.graph.now.groups.of ≡ length subject.now.needs.now.funcs }
     ensures { IfOk result (λ all. all.items ≡ lines.who_lines (subject_of subject.now) policy) }
 {
     let mut text = Text::new(alloc);

@@ -1,6 +1,6 @@
 //! The lines of compartments, globals and peripherals.
 
-ghost use Rattle.std.specs.Prelude.{◌≡◌, ◌++◌, OnOk, codes, length, position, nat_eq};
+ghost use Rattle.std.specs.Prelude.{◌≡◌, ◌++◌, OnOk, codes, position, nat_eq};
 ghost use Rattle.std.specs.Fmt.{decimal};
 ghost use Rattle.ir_model.specs.Resolved as resolved;
 ghost use Rattle.ir_program.specs.Seen.{program_of};
@@ -95,7 +95,6 @@ fn put_number(text: &mut Text, number: u32) -> Result<(), AllocError>
 
 /// Puts the compartments that have a tie, each behind a space.
 fn put_tied(text: &mut Text, subject: &Subject<'_>, tie: Tie) -> Result<(), AllocError>
-    requires { length subject.now.graph.now.groups.of ≡ length subject.now.needs.now.funcs }
     ensures { OnOk result (text.new ≡ text.old ++ lines.tied_text (subject_of subject.now) tie) }
 {
     for compartment in 0..subject.graph.groups.count {
@@ -108,7 +107,6 @@ fn put_tied(text: &mut Text, subject: &Subject<'_>, tie: Tie) -> Result<(), Allo
 
 /// Puts the compartments that may read a global, on a closed board.
 fn put_readers(text: &mut Text, subject: &Subject<'_>, global: u32) -> Result<(), AllocError>
-    requires { length subject.now.graph.now.groups.of ≡ length subject.now.needs.now.funcs }
     ensures { OnOk result (text.new ≡ text.old ++ lines.readers_text (subject_of subject.now) global) }
 {
     if subject.board.closed {
@@ -124,7 +122,6 @@ pub(crate) fn put_global(
     subject: &Subject<'_>,
     global: u32,
 ) -> Result<(), AllocError>
-    requires { length subject.now.graph.now.groups.of ≡ length subject.now.needs.now.funcs }
     ensures { OnOk result (text.new ≡ text.old ++ lines.global_line (subject_of subject.now) global) }
 {
     text.put(b"global ")?;
@@ -143,7 +140,6 @@ pub(crate) fn put_periph(
     subject: &Subject<'_>,
     periph: u32,
 ) -> Result<(), AllocError>
-    requires { length subject.now.graph.now.groups.of ≡ length subject.now.needs.now.funcs }
     ensures { OnOk result (text.new ≡ text.old ++ lines.periph_line (subject_of subject.now) periph) }
 {
     text.put(b"periph ")?;

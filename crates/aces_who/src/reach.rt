@@ -1,6 +1,6 @@
 //! How a compartment stands to an object.
 
-ghost use Rattle.std.specs.Prelude.{◌≡◌, ◌&&◌, length};
+ghost use Rattle.std.specs.Prelude.{◌≡◌, ◌&&◌};
 ghost use Rattle.std.specs.List.{list_any};
 ghost use Rattle.ir_model.specs.Resolved.{window_at};
 ghost use Rattle.ir_program.specs.Seen.{program_of, span_of};
@@ -66,7 +66,6 @@ pub(crate) fn may_use(subject: &Subject<'_>, compartment: u32, periph: u32) -> b
 /// Whether a compartment has a tie.
 #[tactic(auto, unfolding(plan_model::specs::Permission::may_write, plan_model::specs::Permission::may_read))]
 pub fn is_tied(subject: &Subject<'_>, tie: Tie, compartment: u32) -> bool
-    requires { length subject.now.graph.now.groups.of ≡ length subject.now.needs.now.funcs }
     ensures { result ≡ ties.is_tied (subject_of subject.now) tie compartment }
 {
     match tie {
@@ -80,7 +79,6 @@ pub fn is_tied(subject: &Subject<'_>, tie: Tie, compartment: u32) -> bool
 
 /// Whether a function of a compartment writes a global; for loads, or reads it.
 pub fn is_needed(subject: &Subject<'_>, compartment: u32, access: Access, global: u32) -> bool
-    requires { length subject.now.graph.now.groups.of ≡ length subject.now.needs.now.funcs }
     ensures { result ≡ exposed.is_needed (subject_of subject.now) compartment access global }
 {
     let object = ObjId::Global(global);

@@ -1,7 +1,6 @@
 //! The lines of calls, of instructions and of the ends of blocks.
 
 ghost use Rattle.std.specs.Prelude.{◌≡◌, ◌++◌, map, OnOk};
-ghost use Rattle.ir_model.specs.declared.types.Ty.{U32};
 ghost use Rattle.ir_model.specs.Types.{type_of, types_from};
 ghost use Rattle.ir_model.specs.Plain.{func_of, firmware_of};
 ghost use Rattle.ir_model.specs.Resolve.{type_named};
@@ -27,7 +26,6 @@ use std::alloc::AllocError;
 
 /// Puts the types of arguments behind the first, and the closing bracket.
 fn put_more_args(out: &mut Vec<u8>, site: &Site<'_>, args: &[Name]) -> Result<(), AllocError>
-    requires { site.now.number.now ≡ U32 }
     ensures { OnOk result (out.new.items ≡ out.old.items ++ spell_more_row as_bytes (types_from (map (type_named (func_of site.now.func.now)) args.now))) }
 {
     match args {
@@ -42,7 +40,6 @@ fn put_more_args(out: &mut Vec<u8>, site: &Site<'_>, args: &[Name]) -> Result<()
 
 /// Puts the types of arguments, and the closing bracket.
 fn put_args(out: &mut Vec<u8>, site: &Site<'_>, args: &[Name]) -> Result<(), AllocError>
-    requires { site.now.number.now ≡ U32 }
     ensures { OnOk result (out.new.items ≡ out.old.items ++ spell_row as_bytes (types_from (map (type_named (func_of site.now.func.now)) args.now))) }
 {
     match args {
@@ -56,7 +53,6 @@ fn put_args(out: &mut Vec<u8>, site: &Site<'_>, args: &[Name]) -> Result<(), All
 
 /// Puts the type of the result that a call keeps, if it keeps one.
 fn put_kept(out: &mut Vec<u8>, site: &Site<'_>, to: &Option<Name>) -> Result<(), AllocError>
-    requires { site.now.number.now ≡ U32 }
     ensures { OnOk result (out.new.items ≡ out.old.items ++ spell_gives as_bytes (returned_type (func_of site.now.func.now) to.now)) }
 {
     match to {
@@ -75,7 +71,6 @@ fn put_called_type(
     to: &Option<Name>,
     args: &[Name],
 ) -> Result<(), AllocError>
-    requires { site.now.number.now ≡ U32 }
     ensures { OnOk result (out.new.items ≡ out.old.items ++ words.type_text (lines.called_type (func_of site.now.func.now) to.now args.now)) }
 {
     put_keyword(out, Keyword::Fn)?;
@@ -91,7 +86,6 @@ fn put_called(
     to: &Option<Name>,
     args: &[Name],
 ) -> Result<(), AllocError>
-    requires { site.now.number.now ≡ U32 }
     ensures { OnOk result (out.new.items ≡ out.old.items ++ words.found_type (lines.called_type (func_of site.now.func.now) to.now args.now)) }
 {
     put(out, b"found")?;
@@ -107,7 +101,6 @@ fn put_call(
     func: &Name,
     args: &[Name],
 ) -> Result<(), AllocError>
-    requires { site.now.number.now ≡ U32 }
     ensures { OnOk result (out.new.items ≡ out.old.items ++ lines.call_lines (firmware_of site.now.firmware.now) (func_of site.now.func.now) to.now func.now args.now) }
 {
     put_called(out, site, to, args)?;
@@ -116,7 +109,6 @@ fn put_call(
 
 /// Puts the lines of a register that is no function.
 fn put_no_function(out: &mut Vec<u8>, site: &Site<'_>, func: &Name) -> Result<(), AllocError>
-    requires { site.now.number.now ≡ U32 }
     ensures { OnOk result (out.new.items ≡ out.old.items ++ lines.no_function_lines (func_of site.now.func.now) func.now) }
 {
     put_register(out, site, func)?;
@@ -132,7 +124,6 @@ fn put_icall(
     args: &[Name],
     ty: &Ty,
 ) -> Result<(), AllocError>
-    requires { site.now.number.now ≡ U32 }
     ensures { OnOk result (out.new.items ≡ out.old.items ++ lines.icall_lines (func_of site.now.func.now) to.now func.now args.now (type_of ty.now)) }
 {
     match ty {
@@ -148,7 +139,6 @@ fn put_icall(
 
 /// Puts the line of what is returned.
 fn put_returned(out: &mut Vec<u8>, site: &Site<'_>, value: &Option<Name>) -> Result<(), AllocError>
-    requires { site.now.number.now ≡ U32 }
     ensures { OnOk result (out.new.items ≡ out.old.items ++ lines.found_returned (func_of site.now.func.now) value.now) }
 {
     match value {
@@ -159,7 +149,6 @@ fn put_returned(out: &mut Vec<u8>, site: &Site<'_>, value: &Option<Name>) -> Res
 
 /// Puts the lines of an instruction.
 pub(crate) fn put_inst(out: &mut Vec<u8>, site: &Site<'_>, inst: &Inst) -> Result<(), AllocError>
-    requires { site.now.number.now ≡ U32 }
     ensures { OnOk result (out.new.items ≡ out.old.items ++ lines.inst_lines (firmware_of site.now.firmware.now) (func_of site.now.func.now) inst.now) }
 {
     match inst {
@@ -194,7 +183,6 @@ pub(crate) fn put_inst(out: &mut Vec<u8>, site: &Site<'_>, inst: &Inst) -> Resul
 
 /// Puts the lines of a return.
 fn put_ret(out: &mut Vec<u8>, site: &Site<'_>, value: &Option<Name>) -> Result<(), AllocError>
-    requires { site.now.number.now ≡ U32 }
     ensures { OnOk result (out.new.items ≡ out.old.items ++ lines.ret_lines (func_of site.now.func.now) value.now) }
 {
     put_returned(out, site, value)?;
@@ -203,7 +191,6 @@ fn put_ret(out: &mut Vec<u8>, site: &Site<'_>, value: &Option<Name>) -> Result<(
 
 /// Puts the lines of a block's end.
 pub(crate) fn put_term(out: &mut Vec<u8>, site: &Site<'_>, term: &Term) -> Result<(), AllocError>
-    requires { site.now.number.now ≡ U32 }
     ensures { OnOk result (out.new.items ≡ out.old.items ++ lines.term_lines (func_of site.now.func.now) term.now) }
 {
     match term {

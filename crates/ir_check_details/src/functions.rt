@@ -3,7 +3,6 @@
 ghost use Rattle.std.specs.Prelude.{◌≡◌, ◌++◌, map, option_map, Some, OnOk};
 ghost use Rattle.std.specs.Borrow.{Bor};
 ghost use Rattle.std.specs.List.{slice_get};
-ghost use Rattle.ir_model.specs.declared.types.Ty.{U32};
 ghost use Rattle.ir_model.specs.declared.firmware.Binding.{Binding as BindingValue};
 ghost use Rattle.ir_model.specs.Types.{type_of, result_of};
 ghost use Rattle.ir_model.specs.Plain.{binding_of, func_of, firmware_of};
@@ -28,7 +27,6 @@ fn put_stand(
     block: &Block,
     number: u32,
 ) -> Result<(), AllocError>
-    requires { site.now.number.now ≡ U32 }
     ensures { OnOk result (out.new.items ≡ out.old.items ++ lines.stand_lines (firmware_of site.now.firmware.now) (func_of site.now.func.now) block.now number (slice_get block.now.insts number)) }
 {
     let insts = block.insts.as_slice();
@@ -51,7 +49,6 @@ fn put_in_block(
     label: &Name,
     number: u32,
 ) -> Result<(), AllocError>
-    requires { site.now.number.now ≡ U32 }
     ensures { OnOk result (out.new.items ≡ out.old.items ++ lines.block_lines (firmware_of site.now.firmware.now) (func_of site.now.func.now) number (found.block_named site.now.func.now.blocks label.now)) }
 {
     match block_named(site.func.blocks.as_slice(), label.as_slice()) {

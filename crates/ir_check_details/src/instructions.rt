@@ -3,7 +3,6 @@
 ghost use Rattle.std.specs.Prelude.{◌≡◌, ◌++◌, map, None, OnOk};
 ghost use Rattle.base_names.specs.Numbers.{has};
 ghost use Rattle.ir_model.specs.declared.firmware.Peripheral.{Peripheral as PlainPeripheral};
-ghost use Rattle.ir_model.specs.declared.types.Ty.{U32};
 ghost use Rattle.ir_model.specs.Types.{type_of, Pointer, element_of};
 ghost use Rattle.ir_model.specs.Plain.{binding_of, func_of, firmware_of};
 ghost use Rattle.ir_model.specs.Resolve.{row_from};
@@ -37,7 +36,6 @@ pub(crate) fn put_register(
     site: &Site<'_>,
     register: &Name,
 ) -> Result<(), AllocError>
-    requires { site.now.number.now ≡ U32 }
     ensures { OnOk result (out.new.items ≡ out.old.items ++ lines.found_register (func_of site.now.func.now) register.now) }
 {
     put_found_typed(out, register.as_slice(), register_type(site, register))
@@ -49,7 +47,6 @@ pub(crate) fn put_number(
     site: &Site<'_>,
     register: &Name,
 ) -> Result<(), AllocError>
-    requires { site.now.number.now ≡ U32 }
     ensures { OnOk result (out.new.items ≡ out.old.items ++ lines.number_lines (func_of site.now.func.now) register.now) }
 {
     put_register(out, site, register)?;
@@ -64,7 +61,6 @@ pub(crate) fn put_numbers(
     a: &Name,
     b: &Name,
 ) -> Result<(), AllocError>
-    requires { site.now.number.now ≡ U32 }
     ensures { OnOk result (out.new.items ≡ out.old.items ++ lines.numbers_lines (func_of site.now.func.now) to.now a.now b.now) }
 {
     if !is_number(site, to) {
@@ -83,7 +79,6 @@ pub(crate) fn put_move(
     to: &Name,
     from: &Name,
 ) -> Result<(), AllocError>
-    requires { site.now.number.now ≡ U32 }
     ensures { OnOk result (out.new.items ≡ out.old.items ++ lines.move_lines (func_of site.now.func.now) to.now from.now) }
 {
     put_register(out, site, from)?;
@@ -120,7 +115,6 @@ pub(crate) fn put_addr(
     to: &Name,
     of: &Name,
 ) -> Result<(), AllocError>
-    requires { site.now.number.now ≡ U32 }
     ensures { OnOk result (out.new.items ≡ out.old.items ++ lines.addr_lines (firmware_of site.now.firmware.now) (func_of site.now.func.now) to.now of.now) }
 {
     put_register(out, site, to)?;
@@ -194,7 +188,6 @@ pub(crate) fn put_faddr(
     to: &Name,
     of: &Name,
 ) -> Result<(), AllocError>
-    requires { site.now.number.now ≡ U32 }
     ensures { OnOk result (out.new.items ≡ out.old.items ++ lines.faddr_lines (firmware_of site.now.firmware.now) (func_of site.now.func.now) to.now of.now) }
 {
     put_register(out, site, to)?;
@@ -214,7 +207,6 @@ fn put_expected_element(out: &mut Vec<u8>, target: &Ty) -> Result<(), AllocError
 
 /// Puts the lines of a base that is no pointer.
 fn put_no_pointer(out: &mut Vec<u8>, site: &Site<'_>, base: &Name) -> Result<(), AllocError>
-    requires { site.now.number.now ≡ U32 }
     ensures { OnOk result (out.new.items ≡ out.old.items ++ lines.no_pointer_lines (func_of site.now.func.now) base.now) }
 {
     put_register(out, site, base)?;
@@ -229,7 +221,6 @@ fn put_element(
     base: &Name,
     ty: &Ty,
 ) -> Result<(), AllocError>
-    requires { site.now.number.now ≡ U32 }
     ensures { OnOk result (out.new.items ≡ out.old.items ++ lines.element_lines (func_of site.now.func.now) to.now base.now (type_of ty.now)) }
 {
     match ty {
@@ -250,7 +241,6 @@ pub(crate) fn put_elem(
     base: &Name,
     index: &Name,
 ) -> Result<(), AllocError>
-    requires { site.now.number.now ≡ U32 }
     ensures { OnOk result (out.new.items ≡ out.old.items ++ lines.elem_lines (func_of site.now.func.now) to.now base.now index.now) }
 {
     if !is_number(site, index) {
@@ -304,7 +294,6 @@ fn put_struct_field(
     field: &Name,
     fields: &[Binding],
 ) -> Result<(), AllocError>
-    requires { site.now.number.now ≡ U32 }
     ensures { OnOk result (out.new.items ≡ out.old.items ++ lines.struct_field_lines (func_of site.now.func.now) to.now field.now (map binding_of fields.now)) }
 {
     match binding_named(fields, field.as_slice()) {
@@ -324,7 +313,6 @@ fn put_field_of(
     field: &Name,
     of: &Name,
 ) -> Result<(), AllocError>
-    requires { site.now.number.now ≡ U32 }
     ensures { OnOk result (out.new.items ≡ out.old.items ++ lines.of_struct_lines (func_of site.now.func.now) to.now field.now (found.struct_named (firmware_of site.now.firmware.now).structs of.now)) }
 {
     match struct_named(site.firmware.structs.as_slice(), of.as_slice()) {
@@ -335,7 +323,6 @@ fn put_field_of(
 
 /// Puts the lines of a base that is no pointer to a struct.
 fn put_no_struct(out: &mut Vec<u8>, site: &Site<'_>, base: &Name) -> Result<(), AllocError>
-    requires { site.now.number.now ≡ U32 }
     ensures { OnOk result (out.new.items ≡ out.old.items ++ lines.no_struct_lines (func_of site.now.func.now) base.now) }
 {
     put_register(out, site, base)?;
@@ -351,7 +338,6 @@ pub(crate) fn put_field(
     field: &Name,
     ty: &Ty,
 ) -> Result<(), AllocError>
-    requires { site.now.number.now ≡ U32 }
     ensures { OnOk result (out.new.items ≡ out.old.items ++ lines.field_lines (firmware_of site.now.firmware.now) (func_of site.now.func.now) to.now base.now field.now (type_of ty.now)) }
 {
     match ty {
@@ -367,7 +353,6 @@ pub(crate) fn put_field(
 
 /// Puts the lines of a pointer to no cell that a register can hold.
 fn put_no_cell(out: &mut Vec<u8>, site: &Site<'_>, pointer: &Name) -> Result<(), AllocError>
-    requires { site.now.number.now ≡ U32 }
     ensures { OnOk result (out.new.items ≡ out.old.items ++ lines.no_cell_lines (func_of site.now.func.now) pointer.now) }
 {
     put_register(out, site, pointer)?;
@@ -376,7 +361,6 @@ fn put_no_cell(out: &mut Vec<u8>, site: &Site<'_>, pointer: &Name) -> Result<(),
 
 /// Puts the lines of a register that had to be of a type.
 fn put_other(out: &mut Vec<u8>, site: &Site<'_>, register: &Name, ty: &Ty) -> Result<(), AllocError>
-    requires { site.now.number.now ≡ U32 }
     ensures { OnOk result (out.new.items ≡ out.old.items ++ (lines.found_register (func_of site.now.func.now) register.now ++ words.expected_type (type_of ty.now))) }
 {
     put_register(out, site, register)?;
@@ -391,7 +375,6 @@ fn put_cell(
     register: &Name,
     ty: &Ty,
 ) -> Result<(), AllocError>
-    requires { site.now.number.now ≡ U32 }
     ensures { OnOk result (out.new.items ≡ out.old.items ++ lines.cell_lines (func_of site.now.func.now) pointer.now register.now (type_of ty.now)) }
 {
     match ty {
@@ -417,7 +400,6 @@ pub(crate) fn put_access(
     pointer: &Name,
     register: &Name,
 ) -> Result<(), AllocError>
-    requires { site.now.number.now ≡ U32 }
     ensures { OnOk result (out.new.items ≡ out.old.items ++ lines.access_lines (func_of site.now.func.now) pointer.now register.now) }
 {
     put_cell(out, site, pointer, register, register_type(site, pointer))

@@ -3,6 +3,7 @@
 ghost use Rattle.std.specs.Prelude.{◌≡◌, map, option_map};
 ghost use Rattle.std.specs.Borrow.{Bor};
 ghost use Rattle.std.specs.Str.{bytes_eq};
+ghost use Rattle.std.specs.Coded.{Coded-set};
 ghost use Rattle.base_names.specs.Numbers.{has};
 ghost use Rattle.ir_model.specs.declared.firmware.Block.{Block as PlainBlock};
 ghost use Rattle.ir_model.specs.declared.firmware.Peripheral.{Peripheral as PlainPeripheral};
@@ -10,6 +11,7 @@ ghost use Rattle.ir_model.specs.declared.firmware.Func.{Func as FuncValue};
 ghost use Rattle.ir_model.specs.declared.firmware.Global.{Global as GlobalValue};
 ghost use Rattle.ir_model.specs.declared.firmware.StructDecl.{StructDecl as StructValue};
 ghost use Rattle.ir_model.specs.declared.types.Ty.{Ty as TyValue, U32};
+ghost use Rattle.ir_model.specs.contracts.types.Ty as types;
 ghost use Rattle.ir_model.specs.Types.{type_of};
 ghost use Rattle.ir_model.specs.Plain.{binding_of, struct_of, global_of, func_of, file_of};
 ghost use Rattle.ir_model.specs.Resolve.{type_named};
@@ -33,6 +35,8 @@ pub(crate) struct Site<'a> {
     pub(crate) func: &'a Func,
     /// The type of numbers.
     pub(crate) number: &'a Ty,
+    /// It is `u32`.
+    pub(crate) ghost number_is_word: { number.now ≡ U32 } by { Coded-set types.the_row.coded _ _ },
 }
 
 /// Whether a name is a word.
@@ -179,7 +183,6 @@ pub(crate) fn func_named<'s>(files: &'s [FileDecl], word: &[u8]) -> Option<&'s F
 
 /// The type of a register; `u32` for a name that no register has.
 pub(crate) fn register_type<'a>(site: &Site<'a>, name: &Name) -> &'a Ty
-    requires { site.now.number.now ≡ U32 }
     ensures { type_of result.now ≡ type_named (func_of site.now.func.now) name.now }
 {
     match binding_named(site.func.params.as_slice(), name.as_slice()) {
@@ -193,7 +196,6 @@ pub(crate) fn register_type<'a>(site: &Site<'a>, name: &Name) -> &'a Ty
 
 /// Whether a register holds a number.
 pub(crate) fn is_number(site: &Site<'_>, name: &Name) -> bool
-    requires { site.now.number.now ≡ U32 }
     ensures { result ≡ is_number (func_of site.now.func.now) name.now }
 {
     same_type(register_type(site, name), site.number)

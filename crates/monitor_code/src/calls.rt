@@ -1,6 +1,6 @@
 //! The monitor's lists for tables.
 
-ghost use Rattle.std.specs.Prelude.{◌≡◌, ◌≤◌, ◌<◌, ◌^◌, IfOk};
+ghost use Rattle.std.specs.Prelude.{◌≡◌, ◌<◌, ◌^◌, IfOk};
 ghost use Rattle.monitor_steps.specs.Lists.{steps_of};
 ghost use Rattle.monitor_program.specs.Svc as svc_handler;
 ghost use Rattle.monitor_program.specs.MemFault as fault_handler;
@@ -40,7 +40,6 @@ impl Drop for Lists {
 
 /// The three lists by what they take of the tables.
 pub(crate) fn all_lists(alloc: Global, numbers: &Numbers) -> Result<Lists, AllocError>
-    requires { numbers.now.slots ≤ 12 }
     ensures { IfOk result (λ lists. AreLists (constants_of numbers.now) lists) }
 {
     Ok(Lists {
@@ -52,8 +51,7 @@ pub(crate) fn all_lists(alloc: Global, numbers: &Numbers) -> Result<Lists, Alloc
 
 /// The offset of the leave stub. The code of the lists has the same length for each stub.
 fn stub_offset(alloc: Global, numbers: &Numbers) -> Result<u32, AllocError>
-    requires slots { numbers.now.slots ≤ 12 }
-    requires short { flash.stub_offset (constants_of numbers.now) < 2 ^ 24 }
+    requires { flash.stub_offset (constants_of numbers.now) < 2 ^ 24 }
     ensures { IfOk result (λ offset. offset ≡ flash.stub_offset (constants_of numbers.now)) }
 {
     let lists = all_lists(alloc, numbers)?;
@@ -62,16 +60,13 @@ fn stub_offset(alloc: Global, numbers: &Numbers) -> Result<u32, AllocError>
 
 /// What the lists take of the tables.
 pub(crate) fn numbers(alloc: Global, t: &Tables) -> Result<Numbers, AllocError>
-    ensures numbers { IfOk result (λ numbers. constants_of numbers ≡ flash.constants t.now) }
-    ensures slots { IfOk result (λ numbers. numbers.slots ≤ 12) }
+    ensures { IfOk result (λ numbers. constants_of numbers ≡ flash.constants t.now) }
 {
     page_is_full();
-    let first = without_stub(t);
-    let offset = stub_offset(alloc, &first)?;
-    Ok(Numbers {
-        stub_entry: t.base.wrapping_add(offset + 1),
-        ..first
-    })
+    let mut numbers = without_stub(t);
+    let offset = stub_offset(alloc, &numbers)?;
+    numbers.stub_entry = t.base.wrapping_add(offset + 1);
+    Ok(numbers)
 }
 
 /// Start-up for these tables.

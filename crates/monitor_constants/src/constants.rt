@@ -13,7 +13,28 @@ ghost use Rattle.monitor_constants.specs.Sizes.{most};
 use crate::sizes::{block_of, greatest_code, word_count};
 use machine_protection::region::Region;
 use monitor_lists::Numbers;
+use monitor_lists::values::{INIT_SIZE, TARGET_SIZE};
 use monitor_model::Tables;
+
+/// The bytes of the monitor's block.
+const BLOCK_SIZE: u32 = 1024;
+/// How far behind its beginning its loans begin, in bytes.
+const LOANS_OFFSET: u32 = 160;
+
+/// The bytes of the vector words and the monitor's code.
+const PAGE_SIZE: u32 = 4096;
+/// The bytes of the eight words behind them: the five counts, the stack's base and size, and the monitor's block.
+const HEAD_SIZE: u32 = 32;
+/// The bytes of a compartment's record without its slots: both words of region 2, and both masks.
+const RECORD_SIZE: u32 = 16;
+/// The bytes of a slot in it: both words of its region.
+const SLOT_SIZE: u32 = 8;
+/// The bytes of a site's record.
+const SITE_SIZE: u32 = 12;
+/// The bytes of the size of a lendable local.
+const LEND_SIZE: u32 = 4;
+/// The bytes of an initial word.
+const WORD_SIZE: u32 = 4;
 
 /// The number of slots of each compartment; 4 where there is no compartment.
 pub fn number_of_slots(t: &Tables) -> usize
@@ -43,14 +64,16 @@ fn bytes_of(size: u64, count: usize) -> u64
 fn area_size(t: &Tables) -> u64
     ensures { result ≡ min (layout.area_end t.now - t.now.base) most }
 {
-    let compartment = bytes_of(8, number_of_slots(t)).saturating_add(16);
+    let compartment = bytes_of(SLOT_SIZE as u64, number_of_slots(t)).saturating_add(
+        RECORD_SIZE as u64,
+    );
     bytes_of(compartment, t.comps.len())
-        .saturating_add(bytes_of(12, t.sites.len()))
-        .saturating_add(bytes_of(8, t.targets.len()))
-        .saturating_add(bytes_of(4, t.lends.len()))
-        .saturating_add(bytes_of(12, t.inits.len()))
-        .saturating_add(word_count(t.inits.as_slice()).saturating_mul(4))
-        .saturating_add(4096 + 32)
+        .saturating_add(bytes_of(SITE_SIZE as u64, t.sites.len()))
+        .saturating_add(bytes_of(TARGET_SIZE as u64, t.targets.len()))
+        .saturating_add(bytes_of(LEND_SIZE as u64, t.lends.len()))
+        .saturating_add(bytes_of(INIT_SIZE as u64, t.inits.len()))
+        .saturating_add(word_count(t.inits.as_slice()).saturating_mul(WORD_SIZE as u64))
+        .saturating_add((PAGE_SIZE + HEAD_SIZE) as u64)
 }
 
 /// The bytes of the tables' block, at most 2^32.
@@ -127,21 +150,20 @@ fn as_word(number: u32) -> u32
 
 /// What the lists take of the tables, for a leave stub at address 0.
 pub fn without_stub(t: &Tables) -> Numbers
-    ensures numbers { constants_of result ≡ constants_with 0 t.now }
-    ensures slots { result.slots ≤ 12 }
+    ensures { constants_of result ≡ constants_with 0 t.now }
 {
     let slots = number_of_slots(t);
-    let compartments_at = behind(t.base, 1, 4096 + 32);
-    let record = behind(16, 8, slots);
+    let compartments_at = behind(t.base, PAGE_SIZE + HEAD_SIZE, 1);
+    let record = behind(RECORD_SIZE, SLOT_SIZE, slots);
     let sites_at = behind(compartments_at, record, t.comps.len());
-    let targets_at = behind(sites_at, 12, t.sites.len());
-    let lends_at = behind(targets_at, 8, t.targets.len());
-    let inits_at = behind(lends_at, 4, t.lends.len());
+    let targets_at = behind(sites_at, SITE_SIZE, t.sites.len());
+    let lends_at = behind(targets_at, TARGET_SIZE, t.targets.len());
+    let inits_at = behind(lends_at, LEND_SIZE, t.lends.len());
     Numbers {
         slots: slots.min(12) as u8,
         block: as_word(t.monitor),
-        loans_at: t.monitor.wrapping_add(160),
-        block_end: t.monitor.wrapping_add(1024),
+        loans_at: t.monitor.wrapping_add(LOANS_OFFSET),
+        block_end: t.monitor.wrapping_add(BLOCK_SIZE),
         stack: as_word(t.stack.base),
         stack_end: t.stack.base.wrapping_add(t.stack.size),
         eighth: (t.stack.size / 8).trailing_zeros(),

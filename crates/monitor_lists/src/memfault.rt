@@ -1,6 +1,6 @@
 //! The handler of MemManage: an access by a loan is made for the compartment that asked for it.
 
-ghost use Rattle.std.specs.Prelude.{◌≡◌, ◌≤◌, ◌<◌, true, OnOk, IfOk};
+ghost use Rattle.std.specs.Prelude.{◌≡◌, ◌<◌, true, OnOk, IfOk};
 ghost use Rattle.monitor_steps.specs.Lists.{steps_of};
 ghost use Rattle.monitor_program.specs.MemFault as handler;
 ghost use Rattle.monitor_lists.specs.Made.{Appends, Ends, constants_of};
@@ -99,8 +99,7 @@ fn loan_turn(alloc: Global) -> Result<StepList, AllocError>
 
 /// Before the loop over the loans: the mask into r5, the width into r6, the address into r4.
 fn scan_begun(list: &mut StepList, c: &Numbers, mask_at: u8) -> Result<(), AllocError>
-    requires slots { c.now.slots ≤ 12 }
-    requires mask { mask_at < 32 }
+    requires { mask_at < 32 }
     ensures { OnOk result (Appends list.old list.new (handler.scan_begun (constants_of c.now) mask_at)) }
 {
     list.copy(2, 6)?;
@@ -117,8 +116,7 @@ fn scan_begun(list: &mut StepList, c: &Numbers, mask_at: u8) -> Result<(), Alloc
 
 /// Some live loan holds the width from the stacked r1 on and is in a mask; else the machine halts with a number.
 fn scan(list: &mut StepList, c: &Numbers, mask_at: u8, code: u8) -> Result<(), AllocError>
-    requires slots { c.now.slots ≤ 12 }
-    requires mask { mask_at < 32 }
+    requires { mask_at < 32 }
     ensures { OnOk result (Appends list.old list.new (handler.scan (constants_of c.now) mask_at code)) }
 {
     let turn = loan_turn(list.allocator())?;
@@ -204,7 +202,6 @@ fn finished(list: &mut StepList) -> Result<(), AllocError>
 
 /// The stacked r0 to the stacked r1; without a loan the machine halts with 7.
 fn stores(list: &mut StepList, c: &Numbers) -> Result<(), AllocError>
-    requires { c.now.slots ≤ 12 }
     ensures { OnOk result (Ends list.old list.new (handler.stores (constants_of c.now))) }
 {
     scan(list, c, c.record_mask(), HALT_STORE)?;
@@ -216,7 +213,6 @@ fn stores(list: &mut StepList, c: &Numbers) -> Result<(), AllocError>
 
 /// The stacked r0 from the stacked r1; without a loan the machine halts with 9.
 fn lent_load(list: &mut StepList, c: &Numbers) -> Result<(), AllocError>
-    requires { c.now.slots ≤ 12 }
     ensures { OnOk result (Ends list.old list.new (handler.lent_load (constants_of c.now))) }
 {
     scan(list, c, c.record_reads(), HALT_LOAD)?;
@@ -228,7 +224,6 @@ fn lent_load(list: &mut StepList, c: &Numbers) -> Result<(), AllocError>
 
 /// On a closed board: a load by a loan; at another halfword the machine halts with 8.
 fn closed_loads(alloc: Global, c: &Numbers) -> Result<StepList, AllocError>
-    requires { c.now.slots ≤ 12 }
     ensures { IfOk result (λ list. steps_of list.steps.items ≡ handler.loads (constants_of c.now) true) }
 {
     let mut none = StepList::new(alloc);
@@ -241,7 +236,6 @@ fn closed_loads(alloc: Global, c: &Numbers) -> Result<StepList, AllocError>
 
 /// No store: the machine halts with 8 on an open board; on a closed one it may be a load.
 fn loads(alloc: Global, c: &Numbers) -> Result<StepList, AllocError>
-    requires { c.now.slots ≤ 12 }
     ensures { IfOk result (λ list. steps_of list.steps.items ≡ handler.loads (constants_of c.now) c.now.closed) }
 {
     if c.closed {
@@ -268,7 +262,6 @@ fn fault_asked(list: &mut StepList) -> Result<(), AllocError>
 
 /// The handler.
 pub fn handler(alloc: Global, c: &Numbers) -> Result<StepList, AllocError>
-    requires { c.now.slots ≤ 12 }
     ensures { IfOk result (λ list. steps_of list.steps.items ≡ handler.memfault (constants_of c.now)) }
 {
     let other = loads(alloc, c)?;

@@ -8,7 +8,7 @@ use machine_protection::region::Region;
 /// Counts, addresses and words of regions that the lists take of the tables.
 #[derive(Clone, Copy)]
 pub struct Numbers {
-    /// How many slots each compartment has, at most 12.
+    /// How many slots each compartment has.
     pub slots: u8,
     /// The monitor's block.
     pub block: u32,
@@ -54,12 +54,13 @@ pub struct Numbers {
     pub stub_entry: u32,
     /// Whether loads are refused too.
     pub closed: bool,
+    /// The lists have room for 12 slots.
+    pub ghost few_slots: { slots ≤ 12 },
 }
 
 impl Numbers {
     /// The place of a compartment's mask in its record, in words.
     pub fn record_mask(&self) -> u8
-        requires { self.now.slots ≤ 12 }
         ensures { result ≡ record_mask self.now.slots }
     {
         2 * self.slots + 2
@@ -67,7 +68,6 @@ impl Numbers {
 
     /// The place of a compartment's read mask in its record, in words.
     pub fn record_reads(&self) -> u8
-        requires { self.now.slots ≤ 12 }
         ensures { result ≡ record_reads self.now.slots }
     {
         2 * self.slots + 3

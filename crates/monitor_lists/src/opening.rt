@@ -1,6 +1,6 @@
 //! What both handlers begin and end with, and the writing of a compartment's regions.
 
-ghost use Rattle.std.specs.Prelude.{◌+◌, ◌*◌, ◌≤◌, ◌<◌, [], ◌∷◌, OnOk};
+ghost use Rattle.std.specs.Prelude.{◌+◌, ◌*◌, ◌<◌, [], ◌∷◌, OnOk};
 ghost use Rattle.monitor_program.specs.Opening as opening;
 ghost use Rattle.monitor_lists.specs.Made.{Appends, Ends, constants_of};
 
@@ -99,7 +99,6 @@ fn times(list: &mut StepList, to: u8, from: u8, number: u8) -> Result<(), AllocE
 
 /// The address of the record of compartment r5 into r6, by r7.
 pub fn record_of(list: &mut StepList, c: &Numbers) -> Result<(), AllocError>
-    requires { c.now.slots ≤ 12 }
     ensures { OnOk result (Appends list.old list.new (opening.record_of (constants_of c.now))) }
 {
     list.constant(6, 0)?;
@@ -166,7 +165,6 @@ fn stack_region(list: &mut StepList, c: &Numbers) -> Result<(), AllocError>
 
 /// Regions 2, 3 and the slots of compartment r5, with TOP in r3.
 pub fn tables_of(list: &mut StepList, c: &Numbers) -> Result<(), AllocError>
-    requires { c.now.slots ≤ 12 }
     ensures { OnOk result (Appends list.old list.new (opening.tables_of (constants_of c.now))) }
 {
     record_of(list, c)?;

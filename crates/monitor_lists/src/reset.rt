@@ -1,7 +1,7 @@
 //! Start-up: the test of the protection unit, initial words, the monitor's block, the regions of the compartment of `main`, and the
 //! branch to it.
 
-ghost use Rattle.std.specs.Prelude.{◌≡◌, ◌≤◌, OnOk, IfOk};
+ghost use Rattle.std.specs.Prelude.{◌≡◌, OnOk, IfOk};
 ghost use Rattle.monitor_steps.specs.Lists.{steps_of};
 ghost use Rattle.monitor_program.specs.Reset as start;
 ghost use Rattle.monitor_lists.specs.Made.{Appends, Ends, constants_of};
@@ -147,7 +147,6 @@ fn to_main(list: &mut StepList) -> Result<(), AllocError>
 
 /// Start-up.
 pub fn start_up(alloc: Global, c: &Numbers) -> Result<StepList, AllocError>
-    requires { c.now.slots ≤ 12 }
     ensures { IfOk result (λ list. steps_of list.steps.items ≡ start.reset (constants_of c.now)) }
 {
     let mut list = StepList::new(alloc);

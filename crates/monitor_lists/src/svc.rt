@@ -1,6 +1,6 @@
 //! The handler of SVC: enter, leave, lend and unlend.
 
-ghost use Rattle.std.specs.Prelude.{◌≡◌, ◌≤◌, OnOk, IfOk};
+ghost use Rattle.std.specs.Prelude.{◌≡◌, OnOk, IfOk};
 ghost use Rattle.monitor_steps.specs.Lists.{steps_of};
 ghost use Rattle.monitor_program.specs.Svc as handler;
 ghost use Rattle.monitor_lists.specs.Made.{Appends, Ends, constants_of};
@@ -185,7 +185,6 @@ fn entered(list: &mut StepList) -> Result<(), AllocError>
 
 /// SVC 0: a call of another compartment's function.
 fn enter(alloc: Global, c: &Numbers) -> Result<StepList, AllocError>
-    requires { c.now.slots ≤ 12 }
     ensures { IfOk result (λ list. steps_of list.steps.items ≡ handler.enter (constants_of c.now)) }
 {
     let mut list = StepList::new(alloc);
@@ -239,7 +238,6 @@ fn restored(list: &mut StepList) -> Result<(), AllocError>
 
 /// SVC 1: the return to the caller's compartment.
 fn leave(alloc: Global, c: &Numbers) -> Result<StepList, AllocError>
-    requires { c.now.slots ≤ 12 }
     ensures { IfOk result (λ list. steps_of list.steps.items ≡ handler.leave (constants_of c.now)) }
 {
     let mut list = StepList::new(alloc);
@@ -356,7 +354,6 @@ fn on_number(list: &mut StepList, number: u32, chosen: StepList) -> Result<(), A
 
 /// The list of the number in r5. Above 3 the machine halts with 1.
 fn by_number(list: &mut StepList, c: &Numbers) -> Result<(), AllocError>
-    requires { c.now.slots ≤ 12 }
     ensures { OnOk result (Ends list.old list.new (handler.by_number (constants_of c.now))) }
 {
     let alloc = list.allocator();
@@ -370,7 +367,6 @@ fn by_number(list: &mut StepList, c: &Numbers) -> Result<(), AllocError>
 
 /// The handler.
 pub fn handler(alloc: Global, c: &Numbers) -> Result<StepList, AllocError>
-    requires { c.now.slots ≤ 12 }
     ensures { IfOk result (λ list. steps_of list.steps.items ≡ handler.svc (constants_of c.now)) }
 {
     let mut list = StepList::new(alloc);

@@ -1,6 +1,6 @@
 //! The lines of a compartment.
 
-ghost use Rattle.std.specs.Prelude.{◌≡◌, ◌++◌, OnOk, length, nat_eq};
+ghost use Rattle.std.specs.Prelude.{◌≡◌, ◌++◌, OnOk, nat_eq};
 ghost use Rattle.plan_model.specs.Groups as groups_of;
 ghost use Rattle.plan_model.specs.Placement as placement;
 ghost use Rattle.plan_report.specs.CompartmentLines as lines;
@@ -80,7 +80,6 @@ pub(crate) fn put_compartment(
     subject: &Subject<'_>,
     compartment: u32,
 ) -> Result<(), AllocError>
-    requires { length subject.now.graph.now.groups.of ≡ length subject.now.needs.now.funcs }
     ensures { OnOk result (text.new ≡ text.old ++ lines.compartment_lines (subject_of subject.now) compartment) }
 {
     put_code(text, subject, compartment)?;

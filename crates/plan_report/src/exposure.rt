@@ -1,6 +1,6 @@
 //! How many bytes a compartment may reach by its regions though none of its functions does.
 
-ghost use Rattle.std.specs.Prelude.{◌≡◌, ◌++◌, ◌+◌, ◌<◌, OnOk, IfOk, length};
+ghost use Rattle.std.specs.Prelude.{◌≡◌, ◌++◌, ◌+◌, OnOk, IfOk};
 ghost use Rattle.plan_model.specs.Exposure as exposure;
 ghost use Rattle.plan_model.specs.Regions as regions;
 ghost use Rattle.ir_program.specs.Seen.{program_of};
@@ -46,7 +46,6 @@ fn unwritten_bytes(
     compartment: u32,
     region: &DataRegion,
 ) -> Result<u64, AllocError>
-    requires { length subject.now.graph.now.groups.of ≡ length subject.now.needs.now.funcs }
     ensures { IfOk result (λ n. n ≡ regions.size_of (program_of subject.now.program.now) (exposure.never_written subject.now.needs.now subject.now.graph.now.groups compartment region.now)) }
 {
     let mut bytes = 0u64;
@@ -67,7 +66,6 @@ fn unreached_bytes(
     compartment: u32,
     region: &DataRegion,
 ) -> Result<u64, AllocError>
-    requires { length subject.now.graph.now.groups.of ≡ length subject.now.needs.now.funcs }
     ensures { IfOk result (λ n. n ≡ regions.size_of (program_of subject.now.program.now) (exposure.never_reached subject.now.needs.now subject.now.graph.now.groups compartment region.now)) }
 {
     let mut bytes = 0u64;
@@ -84,7 +82,6 @@ fn unreached_bytes(
 
 /// The bytes that a compartment may write by its regions though none of its functions does.
 fn exposed_to_writes(subject: &Subject<'_>, compartment: u32) -> Result<u64, AllocError>
-    requires { length subject.now.graph.now.groups.of ≡ length subject.now.needs.now.funcs }
     ensures { IfOk result (λ n. n ≡ exposure.exposed_to_writes (program_of subject.now.program.now) subject.now.needs.now subject.now.graph.now.groups subject.now.graph.now.regions compartment) }
 {
     let mut bytes = 0u64;
@@ -100,7 +97,6 @@ fn exposed_to_writes(subject: &Subject<'_>, compartment: u32) -> Result<u64, All
 
 /// The bytes that a compartment may read by its regions though none of its functions writes or reads them.
 fn exposed_to_reads(subject: &Subject<'_>, compartment: u32) -> Result<u64, AllocError>
-    requires { length subject.now.graph.now.groups.of ≡ length subject.now.needs.now.funcs }
     ensures { IfOk result (λ n. n ≡ exposure.exposed_to_reads (program_of subject.now.program.now) subject.now.needs.now subject.now.graph.now.groups subject.now.graph.now.regions compartment) }
 {
     let mut bytes = 0u64;
@@ -116,7 +112,6 @@ fn exposed_to_reads(subject: &Subject<'_>, compartment: u32) -> Result<u64, Allo
 
 /// Puts how many bytes are exposed to reads, on a closed board.
 fn put_reads(text: &mut Text, subject: &Subject<'_>, compartment: u32) -> Result<(), AllocError>
-    requires { length subject.now.graph.now.groups.of ≡ length subject.now.needs.now.funcs }
     ensures { OnOk result (text.new ≡ text.old ++ lines.read_exposure (subject_of subject.now) compartment) }
 {
     if subject.board.closed {
@@ -133,7 +128,6 @@ pub(crate) fn put_exposed(
     subject: &Subject<'_>,
     compartment: u32,
 ) -> Result<(), AllocError>
-    requires { length subject.now.graph.now.groups.of ≡ length subject.now.needs.now.funcs }
     ensures { OnOk result (text.new ≡ text.old ++ lines.exposed_line (subject_of subject.now) compartment) }
 {
     text.put(b"exposed ")?;

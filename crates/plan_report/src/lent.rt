@@ -1,6 +1,6 @@
 //! The locals that are lent to a compartment.
 
-ghost use Rattle.std.specs.Prelude.{◌≡◌, ◌++◌, OnOk, length, flat_map, codes, nat_eq, get_or};
+ghost use Rattle.std.specs.Prelude.{◌≡◌, ◌++◌, OnOk, flat_map, codes, nat_eq, get_or};
 ghost use Rattle.std.specs.Int.{bit_at};
 ghost use Rattle.ir_model.specs.declared.object.ObjId.TheVariants.{Local as TheLocal};
 ghost use Rattle.plan_model.specs.Groups as sets;
@@ -33,7 +33,6 @@ fn put_lent(
 
 /// Whether a compartment's functions may write a local.
 fn may_write(subject: &Subject<'_>, compartment: u32, local: (u32, u32)) -> bool
-    requires { length subject.now.graph.now.groups.of ≡ length subject.now.needs.now.funcs }
     ensures { result ≡ sets.writes subject.now.needs.now subject.now.graph.now.groups compartment (TheLocal local.0 local.1) }
 {
     let (func, number) = local;
@@ -46,7 +45,6 @@ fn may_write(subject: &Subject<'_>, compartment: u32, local: (u32, u32)) -> bool
 
 /// Puts the lines of the locals that a compartment's functions may write.
 fn put_written(text: &mut Text, subject: &Subject<'_>, compartment: u32) -> Result<(), AllocError>
-    requires { length subject.now.graph.now.groups.of ≡ length subject.now.needs.now.funcs }
     ensures { OnOk result (text.new ≡ text.old ++ flat_map (lines.lent_line (subject_of subject.now) (codes "lend ")) (lines.written_locals (subject_of subject.now) compartment)) }
 {
     let locals = subject.needs.lendable.as_slice();
@@ -115,7 +113,6 @@ pub(crate) fn put_lent_lines(
     subject: &Subject<'_>,
     compartment: u32,
 ) -> Result<(), AllocError>
-    requires { length subject.now.graph.now.groups.of ≡ length subject.now.needs.now.funcs }
     ensures { OnOk result (text.new ≡ text.old ++ lines.lent_lines (subject_of subject.now) compartment) }
 {
     put_written(text, subject, compartment)?;

@@ -1,6 +1,6 @@
 //! The listing.
 
-ghost use Rattle.std.specs.Prelude.{◌≡◌, ◌++◌, OnOk, IfOk, length};
+ghost use Rattle.std.specs.Prelude.{◌≡◌, ◌++◌, OnOk, IfOk};
 ghost use Rattle.plan_report.specs.Listing as listing;
 ghost use Rattle.plan_report.specs.Subjects.{subject_of};
 
@@ -23,7 +23,6 @@ fn put_policy(text: &mut Text, policy: &[u8]) -> Result<(), AllocError>
 /// Puts the lines of all compartments.
 #[tactic(auto, unfolding(crate::specs::Listing::all_compartment_lines))]
 fn put_compartments(alloc: Global, text: &mut Text, subject: &Subject<'_>) -> Result<(), AllocError>
-    requires { length subject.now.graph.now.groups.of ≡ length subject.now.needs.now.funcs }
     ensures { OnOk result (text.new ≡ text.old ++ listing.all_compartment_lines (subject_of subject.now)) }
 {
     for compartment in 0..subject.graph.groups.count {
@@ -52,7 +51,6 @@ fn put_all(
     subject: &Subject<'_>,
     policy: &[u8],
 ) -> Result<(), AllocError>
-    requires { length subject.now.graph.now.groups.of ≡ length subject.now.needs.now.funcs }
     ensures { OnOk result (text.new ≡ text.old ++ listing.listing (subject_of subject.now) policy.now) }
 {
     put_policy(text, policy)?;
@@ -62,14 +60,13 @@ fn put_all(
     put_memories(text, subject)
 }
 
-/// The listing of a firmware on a board under a policy of this name. The compartments are of as many functions as the needs.
+/// The listing of a firmware on a board under a policy of this name.
 ///
 /// # Errors
 ///
 /// There is no memory for it. This is also the answer where there are more functions or regions than a number of 32 bits tells,
 /// an address of a cover has more than 32 bits, or a sum more than 64: no firmware comes there.
 pub fn listing(alloc: Global, subject: &Subject<'_>, policy: &[u8]) -> Result<Vec<u8>, AllocError>
-    requires { length subject.now.graph.now.groups.of ≡ length subject.now.needs.now.funcs }
     ensures { IfOk result (λ lines. lines.items ≡ listing.listing (subject_of subject.now) policy.now) }
 {
     let mut text = Text::new(alloc);

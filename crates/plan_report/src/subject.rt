@@ -1,5 +1,7 @@
 //! What a listing speaks of.
 
+ghost use Rattle.std.specs.Prelude.{◌≡◌, length};
+
 use ir_model::firmware::Firmware;
 use ir_program::program::Program;
 use plan_model::graph::Final;
@@ -21,4 +23,6 @@ pub struct Subject<'a> {
     pub plan: &'a Plan,
     /// The board.
     pub board: &'a Board,
+    /// There is a compartment for each function.
+    pub ghost each_group: { length graph.now.groups.of ≡ length needs.now.funcs },
 }

@@ -12,8 +12,8 @@ returns-in_err-made-clause-refused c =
     let x = err_from_is_err_and c.from_residual.result c.from_residual.ensures.1 in
     rw x.1 (unplanned c.args.policy (firmware_of c.args.firmware.now) b a c.requires.analysis x.0 (subst (IsRefusalOf a b) (sym x.2) c.in_err-made.ensures.refused))
 
-pub symbols_of_plan-requires : goal.symbols_of_plan-requires
-symbols_of_plan-requires c = c.requires.analysis.program
+pub symbols_of_plan-requires-clause-program : goal.symbols_of_plan-requires-clause-program
+symbols_of_plan-requires-clause-program c = c.requires.analysis.program
 
 pub returns-clause-ok : goal.returns-clause-ok
 returns-clause-ok c =

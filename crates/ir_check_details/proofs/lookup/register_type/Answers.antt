@@ -39,4 +39,4 @@ returns-in-None-binding_named c =
     subst (λ ss. binding_type (map binding_of ss) c.args.name.now ≡ None) c.as_slice-in-None.ensures
     (subst (λ n. binding_type (map binding_of c.as_slice-in-None.result.now) n ≡ None) c.as_slice-in-None-2.ensures.same
     (sym c.binding_named-in-None.ensures ∙ ap (option_map seen) c.in-None-binding_named.is)) in
-    ap type_of c.requires ∙ sym (is_absent (func_of c.args.site.now.func.now) c.args.name.now e r)
+    ap type_of c.args.site.now.number_is_word ∙ sym (is_absent (func_of c.args.site.now.func.now) c.args.name.now e r)

@@ -6,8 +6,8 @@ use Rattle.monitor_program.specs.Constants.{most_slots}
 use Rattle.monitor_constants.proofs.Counted.{wrapped_behind}
 use Rattle.monitor_constants.proofs.constants.without_stub.Goals as goal
 
-pub returns-clause-numbers : goal.returns-clause-numbers
-returns-clause-numbers c =
+pub returns : goal.returns
+returns c =
     let t = c.args.t.now in
     let s = number_of_slots t in
     let slots : c.min.result ≡ min most_slots s = omega (arith, c.min.ensures, c.number_of_slots-slots.ensures) in
