@@ -15,11 +15,10 @@ use machine_protection::region::Region;
 use monitor_lists::Numbers;
 use monitor_lists::values::{INIT_SIZE, TARGET_SIZE};
 use monitor_model::Tables;
+use monitor_model::places::LOANS_OFFSET;
 
 /// The bytes of the monitor's block.
 const BLOCK_SIZE: u32 = 1024;
-/// How far behind its beginning its loans begin, in bytes.
-const LOANS_OFFSET: u32 = 160;
 
 /// The bytes of the vector words and the monitor's code.
 const PAGE_SIZE: u32 = 4096;

@@ -8,7 +8,7 @@ mod numbers;
 mod opening;
 pub mod reset;
 pub mod svc;
-mod values;
+pub mod values;
 
 pub use list::StepList;
 pub use numbers::Numbers;
