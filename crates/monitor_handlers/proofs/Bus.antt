@@ -46,11 +46,10 @@ use Rattle.monitor_program.specs.Svc.{enter, leave, lend, unlend, on_number, svc
 use Rattle.monitor_laws.proofs.Off.{core, IsOff, open_while_off}
 use Rattle.monitor_laws.proofs.Appended.{followed_by, code_followed}
 use Rattle.monitor_laws.proofs.Opened.{FrameIsOpen}
-use Rattle.monitor_laws.proofs.HandlerRule.{HandlerRule}
 use Rattle.monitor_laws.proofs.SvcNumber.{Called, numbered as up_to_number, numbered_within}
 use Rattle.monitor_handlers.proofs.Calling.{Calling, off, is_off, halted, same, top_word, top_word_below, word_before}
-use Rattle.monitor_handlers.proofs.Numbers.{reach, W, Q, at_first}
-use Rattle.monitor_handlers.proofs.Mode.{IsGood, good_while_off}
+use Rattle.monitor_handlers.proofs.Numbers.{W, Q, at_first, premises}
+use Rattle.monitor_handlers.proofs.Mode.{good_while_off}
 use Rattle.monitor_handlers.proofs.Returned.{is_before}
 
 -- a load outside the system's part of the memory map goes to the bus
@@ -97,7 +96,7 @@ module _ (nothing : NothingStops) (equal : holds 0 (compare_flags 0 0) ≡ true)
   -- ---- the list in two parts
 
   abbrev pub before : PrivilegedSteps
-  before = up_to_number i t c.placed c.tables stub (IsGood i) (HandlerRule i t s) (reach i t stub s m psp o memory c) (good_while_off i c.placed.rules) (on_number 3 unlend (on_number 2 (lend k) (Const 6 0 End)))
+  before = up_to_number (premises i t stub s m psp o memory c) (on_number 3 unlend (on_number 2 (lend k) (Const 6 0 End)))
 
   abbrev pub others : PrivilegedSteps
   others = on_number 1 (leave k) (Rattle.monitor_steps.specs.Steps.Halt 1 End)
@@ -124,7 +123,7 @@ module _ (nothing : NothingStops) (equal : holds 0 (compare_flags 0 0) ≡ true)
 
   pub before_within : (a0 a1 a2 a3 a4 a5 a6 a7 : ℕ) → W i t stub s m psp o memory c 68 before [] (at_first i t stub s m psp o memory c a0 a1 a2 a3 a4 a5 a6 a7) Ends
   before_within a0 a1 a2 a3 a4 a5 a6 a7 =
-      numbered_within i t c.placed c.tables stub (IsGood i) (HandlerRule i t s) (reach i t stub s m psp o memory c) (good_while_off i c.placed.rules) msp psp s.status (record s.protection { handler = true }) o 0 memory a0 a1 a2 a3 a4 a5 a6 a7 refl refl c.at c.aligned small (top_word_below i t stub s m psp o memory c) (word_before i t stub s m psp o memory c) (subst (λ r. Called i r 0) (sym return_is) called)
+      numbered_within (premises i t stub s m psp o memory c) msp psp s.status (record s.protection { handler = true }) o 0 memory a0 a1 a2 a3 a4 a5 a6 a7 refl refl c.at c.aligned small (top_word_below i t stub s m psp o memory c) (word_before i t stub s m psp o memory c) (subst (λ r. Called i r 0) (sym return_is) called)
       (λ d r shut. inl (halted i t stub s m psp o memory c 4 d r, shut))
       (λ q1 eq off1 f.
       at_within (ap (λ q. core msp psp q s.status memory psp k.block k.stack (read 4 (t.monitor - i.ram_base + 4) memory) (read 4 (o + 24) memory) 0 MPU_CTRL 0) eq ∙ ap₂ (λ x y. core msp psp here s.status memory psp k.block k.stack x y 0 MPU_CTRL 0) (top_word i t stub s m psp o memory c) return_is)

@@ -35,6 +35,7 @@ use Rattle.monitor_handlers.proofs.Blocks.{saved_stay, loans_stay}
 use Rattle.monitor_handlers.proofs.Returned.{LeavesRam, Resuming, Answers}
 use Rattle.monitor_handlers.proofs.Mode.{IsGood}
 use Rattle.monitor_handlers.proofs.Targets.{SiteFits}
+use Rattle.monitor_laws.proofs.Placement.{Installed}
 
 -- what is known behind the entry, from a thread's state s with block m: the frame at psp, and RAM
 pub record Calling (i : Image) (t : Tables) (s : State) (m : MonitorBlock) (psp o : ℕ) (memory : List ℕ) : Type 0 where
@@ -48,6 +49,10 @@ pub record Calling (i : Image) (t : Tables) (s : State) (m : MonitorBlock) (psp 
   pub fits : o + 32 ≤ i.ram_size
   pub is_block : IsBlock i t memory m
   pub as_long : length memory ≡ i.ram_size
+
+-- the monitor in the image of a call
+abbrev pub installed_at : {i : Image} {t : Tables} {s : State} {m : MonitorBlock} {psp o : ℕ} {memory : List ℕ} → Calling i t s m psp o memory → (stub : ℕ) → Installed
+installed_at {i} {t} c stub = record { image = i; tables = t; placed = c.placed; has_tables = c.tables; stub = stub }
 
 module _ (i : Image) (t : Tables) (stub : ℕ) (s : State) (m : MonitorBlock) (psp o : ℕ) (memory : List ℕ) (c : Calling i t s m psp o memory) where
   abbrev b : ℕ

@@ -19,9 +19,6 @@ use Rattle.monitor_steps.specs.Steps.{PrivilegedSteps, Load}
 use Rattle.monitor_steps.specs.Core.{Core, low_register, with_low, with_system}
 use Rattle.monitor_steps.specs.Effect.{Outcome, AtReturn, Stopped}
 use Rattle.monitor_steps.proofs.Within.{GivesWithin, const_within, alu_within, at_within, more_within, next_within, yes_within, no_within, system_within}
-use Rattle.monitor_model.specs.declared.tables.Tables.{Tables}
-use Rattle.monitor_model.specs.Area.{HasTables}
-use Rattle.monitor_model.specs.Placed.{Placed}
 use Rattle.monitor_model.specs.Outcomes.{stacked, moved_on}
 use Rattle.monitor_program.specs.Constants.{Constants, constants_with}
 use Rattle.monitor_program.specs.MemFault.{stored, loaded, finished}
@@ -29,12 +26,13 @@ use Rattle.monitor_model.specs.Reach.{OfSystem}
 use Rattle.monitor_model.specs.BlockWords.{top as top_of}
 use Rattle.monitor_model.specs.Handlers.{ForSystem}
 use Rattle.monitor_laws.proofs.Off.{core, with_unit, IsOff, open_while_off, system_load_within}
-use Rattle.monitor_laws.proofs.Opened.{Handles}
 use Rattle.monitor_laws.proofs.Unlend.{closed_within}
-use Rattle.monitor_laws.proofs.HandlerRule.{HandlerRule, handlers_reach}
+use Rattle.monitor_laws.proofs.HandlerRule.{HandlerRule, thread_premises}
 use Rattle.monitor_laws.proofs.HandlerWords.{InStack, frame_load_within, frame_store_within}
 use Rattle.monitor_handlers.proofs.Frames.{stacked_is}
 use Rattle.monitor_handlers.proofs.Wide.{load_wide_within, store_wide_within, load_unaligned_within, store_unaligned_within}
+use Rattle.monitor_laws.proofs.Placement.{Installed}
+use Rattle.monitor_laws.proofs.Opened.{HandlerPremises}
 
 -- ---- the register of the fault's status
 
@@ -70,7 +68,9 @@ pub record IsDone (msp psp : ℕ) (r : ProtectionState) (u : FaultStatus) (after
   pub status : d.status ≡ record u { cfsr = 0 }
   pub ram : d.ram ≡ after
 
-module _ (i : Image) (t : Tables) (p : Placed i t) (has : HasTables i t) (stub : ℕ) (thread : State) (Good : ProtectionState → Type 0) (good : (q : ProtectionState) → IsOff true q → Good q) where
+module _ (installed : Installed) (thread : State) (Good : ProtectionState → Type 0) (good : (q : ProtectionState) → IsOff true q → Good q) where
+  open installed use {image as i, tables as t, placed as p, stub}
+
   abbrev k : Constants
   k = constants_with stub t
 
@@ -80,8 +80,10 @@ module _ (i : Image) (t : Tables) (p : Placed i t) (has : HasTables i t) (stub :
   abbrev block : ℕ
   block = t.monitor - i.ram_base
 
-  handles : Handles i t (top_of i t thread.ram) (HandlerRule i t thread)
-  handles = handlers_reach i t thread p
+  abbrev premises : HandlerPremises
+  premises = thread_premises installed thread Good good
+
+  open premises use {handles}
 
   loads_cfsr : (c : Core) → c.protection.handler ≡ true → HandlerRule i t thread Read c 4 CFSR
   loads_cfsr c h = λ u at closed k lt. (OfSystem (ap (λ q. q.handler) at.protection ∙ h) (within k lt), ForSystem (within k lt))
@@ -150,13 +152,13 @@ module _ (i : Image) (t : Tables) (p : Placed i t) (has : HasTables i t) (stub :
         W 19 finished ks (core msp psp q u m psp a1 a2 a3 a4 a5 a6 a7) Q
     finished_within o top r {ks} {Q} q m a1 a2 a3 a4 a5 a6 a7 off ep io below et ec on good_on f =
         more_within
-        (frame_load_within i t p has stub Good (HandlerRule i t thread) handles good o top 6 off io below ep refl et (λ v4 e4.
+        (frame_load_within premises o top 6 off io below ep refl et (λ v4 e4.
         const_within (alu_within (λ x ex.
-        frame_store_within i t p has stub Good (HandlerRule i t thread) handles good o top 6 off io ep refl et (λ m1 w1 z1.
+        frame_store_within premises o top 6 off io ep refl et (λ m1 w1 z1.
         const_within (cfsr_within off refl
         (system_within CFSR off.privileged refl refl (omega arith) refl refl (handles.plain.system _ CFSR off.mode refl refl) (good_after m1)
         (at_within (same m1)
-        (closed_within i t p has stub Good (HandlerRule i t thread) handles good msp psp (record u { cfsr = 0 }) q m1 psp a1 a2 a3 CFSR u.cfsr a6 a7 off (subst Good (sym on) good_on) (λ q1 e1.
+        (closed_within premises msp psp (record u { cfsr = 0 }) q m1 psp a1 a2 a3 CFSR u.cfsr a6 a7 off (subst Good (sym on) good_on) (λ q1 e1.
         f _ (record { sp = refl; other_sp = refl; protection = e1 ∙ on; status = refl; ram = w1 ∙ moved_is i psp o x v4 m ep e4 ex }))))))))))) (omega arith)
       where
         same : (m1 : List ℕ) → with_system (core msp psp q u m1 psp a1 a2 a3 CFSR u.cfsr a6 a7) CFSR u.cfsr ≡ core msp psp q (record u { cfsr = 0 }) m1 psp a1 a2 a3 CFSR u.cfsr a6 a7

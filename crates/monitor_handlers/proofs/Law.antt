@@ -61,7 +61,7 @@ use Rattle.monitor_handlers.proofs.SvcCode.{offset, room, has_svc, vector_is, of
 use Rattle.monitor_handlers.proofs.Entry as entry
 use Rattle.monitor_handlers.proofs.Entry.{EntryLaws}
 use Rattle.monitor_handlers.proofs.Returned.{ReturnLaws, concluded}
-use Rattle.monitor_handlers.proofs.Calling.{Calling, good_entry, outcome_open, outcome_shut}
+use Rattle.monitor_handlers.proofs.Calling.{Calling, good_entry, outcome_open, outcome_shut, installed_at}
 use Rattle.monitor_handlers.proofs.Numbers as by
 use Rattle.monitor_handlers.proofs.Bus as bus
 use Rattle.base_laws.proofs.Lists.{each_at}
@@ -170,7 +170,7 @@ module _ (laws : CallLaws) (i : Image) (t : Tables) (fit : IsFit i t) (s : State
   code_room = room i t p.rules fit.behind fit.has_page p.tables_first laws.code_fits
 
   slots_most : k.slots ≤ 12
-  slots_most = let w = writable i t p fit.tables stub in let e = slots_are i t w stub in let m = w.most in omega (arith, e, m)
+  slots_most = let w = writable (installed_at calling stub) in let e = slots_are i t w stub in let m = w.most in omega (arith, e, m)
 
   code_there : CodeIn i pc0 (code (svc k))
   code_there = has_svc i t p.rules fit.behind fit.has_page p.tables_first laws.code_fits slots_most

@@ -22,12 +22,10 @@ use Rattle.monitor_steps.proofs.Gives.{word_fits}
 use Rattle.monitor_steps.proofs.Within.{GivesWithin, const_within, alu_within, at_within, more_within, must_within, psp_within, load_within, store_within}
 use Rattle.monitor_model.specs.declared.tables.Tables.{Tables}
 use Rattle.monitor_model.specs.Records.{stack_end}
-use Rattle.monitor_model.specs.Area.{HasTables}
-use Rattle.monitor_model.specs.Placed.{Placed}
 use Rattle.monitor_program.specs.Constants.{Constants, constants_with}
 use Rattle.monitor_program.specs.Opening.{opened}
 use Rattle.monitor_laws.proofs.Off.{core, with_unit, IsOff, Allows, open_while_off, set_control_within}
-use Rattle.monitor_laws.proofs.Placement.{block_is, writable}
+use Rattle.monitor_laws.proofs.Placement.{block_is, writable, Installed}
 
 pub le_false : (x y : ℕ) → nat_le x y ≡ false → y < x
 le_false x y h = grind (arith, nat_tests)
@@ -59,7 +57,23 @@ pub record Handles (i : Image) (t : Tables) (entry_top : ℕ) (Allowed : Rule) :
   pub stack_load : (c : Core) (o : ℕ) → t.stack.base ≤ i.ram_base + o → i.ram_base + (o + 4) ≤ read 4 (t.monitor - i.ram_base + 4) c.ram → i.ram_base + (o + 4) ≤ entry_top → Allowed Read c 4 (i.ram_base + o)
   pub stack_store : (c : Core) (o : ℕ) → t.stack.base ≤ i.ram_base + o → i.ram_base + (o + 4) ≤ read 4 (t.monitor - i.ram_base + 4) c.ram → Allowed Write c 4 (i.ram_base + o)
 
-module _ (i : Image) (t : Tables) (p : Placed i t) (has : HasTables i t) (stub : ℕ) (Good : ProtectionState → Type 0) (Allowed : Rule) {entry_top : ℕ} (handles : Handles i t entry_top Allowed) (good : (q : ProtectionState) → IsOff true q → Good q) where
+-- what the laws of the handlers' lists rest on: the monitor in its image, and what a handler's steps are held to
+pub record HandlerPremises : Type 1 where
+  pub installed : Installed
+  -- what the protection unit and the mode are to be at each step
+  pub Good : ProtectionState → Type 0
+  -- what each step may access
+  pub Allowed : Rule
+  -- the block's TOP where the handler was entered
+  pub entry_top : ℕ
+  -- the rule allows what handlers access
+  pub handles : Handles installed.image installed.tables entry_top Allowed
+  -- a handler is right with its unit off
+  pub good : (q : ProtectionState) → IsOff true q → Good q
+
+module _ (premises : HandlerPremises) where
+  open premises use {installed, installed.{image as i, tables as t, placed as p, has_tables as has, stub}, Good, Allowed, entry_top, handles, good}
+
   abbrev k : Constants
   k = constants_with stub t
 
@@ -73,7 +87,7 @@ module _ (i : Image) (t : Tables) (p : Placed i t) (has : HasTables i t) (stub :
   block = t.monitor - i.ram_base
 
   block_at : (off x : ℕ) → x ≡ k.block → x + 4 * off ≡ i.ram_base + (block + 4 * off)
-  block_at off x e = let b = block_is i t p has stub in let l = p.block_inside.0 in omega (arith, e, b, l)
+  block_at off x e = let b = block_is installed in let l = p.block_inside.0 in omega (arith, e, b, l)
 
   block_aligned : (off : ℕ) → (block + 4 * off) % 4 ≡ 0
   block_aligned off = let a = p.block_aligned in let r = rules.ram_aligned in let l = p.block_inside.0 in omega (arith, a, r, l)
@@ -118,7 +132,7 @@ module _ (i : Image) (t : Tables) (p : Placed i t) (has : HasTables i t) (stub :
         at_within (ap (λ top. core msp psp q1 u m psp k.block k.stack top v 0 MPU_CTRL 0) etop) (go q1 v eq off (record { low = is_low (leb-true _ _ e1); high = is_high top d etop (leb-true _ _ e2) ed (leb-true _ _ e3); no_pad = nine })))))))))))))))))) (omega arith)
       where
         stack_is : k.stack ≡ t.stack.base
-        stack_is = let a = (writable i t p has stub).stack_inside.1 in let x = rules.ram_highest in let y = rules.ram_most in omega (arith, a, x, y)
+        stack_is = let a = (writable installed).stack_inside.1 in let x = rules.ram_highest in let y = rules.ram_most in omega (arith, a, x, y)
 
         is_low : k.stack ≤ psp → t.stack.base ≤ i.ram_base + o
         is_low l = let s = stack_is in omega (arith, l, s, ep)
@@ -142,7 +156,7 @@ module _ (i : Image) (t : Tables) (p : Placed i t) (has : HasTables i t) (stub :
         frame_aligned a = omega (arith, a)
 
         frame_room : i.ram_base + o + 32 ≤ read 4 (block + 4) m → o + 28 + 4 ≤ i.ram_size
-        frame_room x = let a = (writable i t p has stub).stack_inside.1 in omega (arith, x, a, et)
+        frame_room x = let a = (writable installed).stack_inside.1 in omega (arith, x, a, et)
 
         later : t.stack.base ≤ i.ram_base + o → t.stack.base ≤ i.ram_base + (o + 28)
         later l = omega (arith, l)

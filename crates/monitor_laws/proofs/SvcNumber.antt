@@ -12,18 +12,14 @@ use Rattle.machine_model.specs.State.{by_mpu, is_unprivileged}
 use Rattle.monitor_steps.specs.Steps.{PrivilegedSteps}
 use Rattle.monitor_steps.specs.Core.{Core}
 use Rattle.monitor_steps.specs.Effect.{Outcome, Halted, AtReturn}
-use Rattle.monitor_steps.specs.Safe.{Rule}
 use Rattle.monitor_steps.proofs.Within.{GivesWithin, const_within, alu_within, at_within, more_within, yes_within, no_within, next_within, halt_within, load_within, load_flash_within}
-use Rattle.monitor_model.specs.declared.tables.Tables.{Tables}
 use Rattle.monitor_model.specs.Records.{stack_end}
-use Rattle.monitor_model.specs.Area.{HasTables}
-use Rattle.monitor_model.specs.Placed.{Placed}
 use Rattle.monitor_program.specs.Constants.{Constants, constants_with}
 use Rattle.monitor_program.specs.Opening.{opened}
 use Rattle.monitor_program.specs.Svc.{svc_number, by_number as lists_by_number, svc}
 use Rattle.monitor_laws.proofs.Off.{core, with_unit, IsOff, open_while_off}
 use Rattle.monitor_laws.proofs.Placement.{writable}
-use Rattle.monitor_laws.proofs.Opened.{Handles, FrameIsOpen, opened_within}
+use Rattle.monitor_laws.proofs.Opened.{FrameIsOpen, opened_within, HandlerPremises}
 use Rattle.monitor_laws.proofs.Unlend.{unlend_within}
 
 -- SVC #n stands in flash before a return address
@@ -38,7 +34,9 @@ low_byte : (o n : ℕ) (flash : List ℕ) → read 2 o flash ≡ 0xDF00 + n → 
 unfolding read
 low_byte o n flash h b = omega (arith, h, b)
 
-module _ (i : Image) (t : Tables) (p : Placed i t) (has : HasTables i t) (stub : ℕ) (Good : ProtectionState → Type 0) (Allowed : Rule) {entry_top : ℕ} (handles : Handles i t entry_top Allowed) (good : (q : ProtectionState) → IsOff true q → Good q) where
+module _ (premises : HandlerPremises) where
+  open premises use {installed, installed.{image as i, tables as t, placed as p, stub}, Good, Allowed, entry_top, handles}
+
   abbrev k : Constants
   k = constants_with stub t
 
@@ -64,7 +62,7 @@ module _ (i : Image) (t : Tables) (p : Placed i t) (has : HasTables i t) (stub :
         W (54 + b) (numbered s) [] (core msp psp q u m a0 a1 a2 a3 a4 a5 a6 a7) Q
     numbered_within {b} {s} {Q} q o n m a0 a1 a2 a3 a4 a5 a6 a7 h un ep ao small et below called refuse go =
         more_within
-        (opened_within i t p has stub Good Allowed handles good msp psp u q o m a0 a1 a2 a3 a4 a5 a6 a7 h un ep ao small et below refuse (λ q1 v4 eq off f.
+        (opened_within premises msp psp u q o m a0 a1 a2 a3 a4 a5 a6 a7 h un ep ao small et below refuse (λ q1 v4 eq off f.
         load_within p.rules (o + 24) (open_while_off q1 off.control) (frame_at ep) (aligned ao) (room f.high) (handles.stack_load _ (o + 24) (later f.low) (earlier f.high) (at_entry f.high)) (λ x4 e4.
         const_within (alu_within (λ x5 e5.
         load_flash_within p.rules called.offset {z = Byte} (open_while_off q1 off.control) (before x4 x5 e4 e5) (omega arith) (inside called.room) (handles.plain.flash _ 1 called.offset (one called.room)) (λ y5 f5.
@@ -78,7 +76,7 @@ module _ (i : Image) (t : Tables) (p : Placed i t) (has : HasTables i t) (stub :
         aligned a = omega (arith, a)
 
         room : i.ram_base + o + 32 ≤ read 4 (block + 4) m → o + 24 + 4 ≤ i.ram_size
-        room x = let a = (writable i t p has stub).stack_inside.1 in omega (arith, x, a, et)
+        room x = let a = (writable installed).stack_inside.1 in omega (arith, x, a, et)
 
         later : t.stack.base ≤ i.ram_base + o → t.stack.base ≤ i.ram_base + (o + 24)
         later l = omega (arith, l)
@@ -123,4 +121,4 @@ module _ (i : Image) (t : Tables) (p : Placed i t) (has : HasTables i t) (stub :
     three_within q m a0 a2 a3 a4 a6 a7 off on refuse go =
         more_within
         (const_within (yes_within refl
-        (unlend_within i t p has stub Good Allowed handles good msp psp u q m a0 a2 a3 a4 3 3 a7 off on refuse go))) (omega arith)
+        (unlend_within premises msp psp u q m a0 a2 a3 a4 3 3 a7 off on refuse go))) (omega arith)

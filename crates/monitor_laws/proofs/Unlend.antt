@@ -4,25 +4,22 @@ use Rattle.std.proofs.lemmas.Bool.{eqb-true}
 use Rattle.base_words.specs.Arithmetic.{subtract}
 use Rattle.base_words.specs.Bytes.{read, write}
 use Rattle.machine_protection.specs.declared.TheConstants.{MPU_CTRL}
-use Rattle.machine_devices.specs.declared.image.Image.{Image}
 use Rattle.machine_model.specs.declared.state.ProtectionState.{ProtectionState}
 use Rattle.machine_model.specs.declared.state.FaultStatus.{FaultStatus}
 use Rattle.machine_model.specs.State.{by_mpu}
 use Rattle.monitor_steps.specs.Steps.{PrivilegedSteps}
 use Rattle.monitor_steps.specs.Core.{Core}
 use Rattle.monitor_steps.specs.Effect.{Outcome, Halted, AtReturn}
-use Rattle.monitor_steps.specs.Safe.{Rule}
 use Rattle.monitor_steps.proofs.Within.{GivesWithin, const_within, alu_within, more_within, must_not_within, return_within}
-use Rattle.monitor_model.specs.declared.tables.Tables.{Tables}
-use Rattle.monitor_model.specs.Area.{HasTables}
-use Rattle.monitor_model.specs.Placed.{Placed}
 use Rattle.monitor_program.specs.Constants.{Constants, constants_with}
 use Rattle.monitor_program.specs.Opening.{closed_up}
 use Rattle.monitor_program.specs.Svc.{unlend}
 use Rattle.monitor_laws.proofs.Off.{core, with_unit, IsOff, set_control_within}
-use Rattle.monitor_laws.proofs.Opened.{Handles, eq_false, block_load_within, block_store_within}
+use Rattle.monitor_laws.proofs.Opened.{eq_false, block_load_within, block_store_within, HandlerPremises}
 
-module _ (i : Image) (t : Tables) (p : Placed i t) (has : HasTables i t) (stub : ℕ) (Good : ProtectionState → Type 0) (Allowed : Rule) {entry_top : ℕ} (handles : Handles i t entry_top Allowed) (good : (q : ProtectionState) → IsOff true q → Good q) where
+module _ (premises : HandlerPremises) where
+  open premises use {installed.{image as i, tables as t, placed as p, stub}, Good, Allowed, handles, good}
+
   abbrev k : Constants
   k = constants_with stub t
 
@@ -50,10 +47,10 @@ module _ (i : Image) (t : Tables) (p : Placed i t) (has : HasTables i t) (stub :
         W 24 unlend ks (core msp psp q u m a0 k.block a2 a3 a4 a5 a6 a7) Q
     unlend_within {ks} {Q} q m a0 a2 a3 a4 a5 a6 a7 off on refuse go =
         more_within
-        (block_load_within i t p has stub Good Allowed handles good 3 off refl refl (λ x ex.
-        block_load_within i t p has stub Good Allowed handles good 4 off refl refl (λ y ey.
+        (block_load_within premises 3 off refl refl (λ x ex.
+        block_load_within premises 4 off refl refl (λ y ey.
         must_not_within (λ e. refuse _ refl (sym ex ∙ eqb-true _ _ e ∙ ey)) (λ e.
         const_within (alu_within (λ v ev.
-        block_store_within i t p has stub Good Allowed handles good 3 off refl refl (λ new en ln.
+        block_store_within premises 3 off refl refl (λ new en ln.
         closed_within q new a0 k.block a2 a3 v 1 a6 a7 off on (λ q1 e1.
         go q1 new v e1 (λ z. eq_false _ _ e (ex ∙ z ∙ sym ey)) (en ∙ ap (λ v. write 4 (block + 12) v m) (ev ∙ ap (λ x. subtract x 1) ex)) ln)))))))) (omega arith)
