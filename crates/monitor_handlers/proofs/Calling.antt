@@ -19,7 +19,7 @@ use Rattle.monitor_model.specs.Area.{HasTables}
 use Rattle.monitor_model.specs.Regions.{regions_for}
 use Rattle.monitor_model.specs.Placed.{Placed}
 use Rattle.monitor_model.specs.Block.{Loan, MonitorBlock, lent, unlent}
-use Rattle.monitor_model.specs.BlockWords.{block_word, top as top_of, IsBlock}
+use Rattle.monitor_model.specs.BlockWords.{block_word, top as top_of, IsBlock, HasLoans}
 use Rattle.monitor_model.specs.Invariant.{IsTop, InvariantHolds}
 use Rattle.monitor_model.specs.Handlers.{LoadFor, ForStack}
 use Rattle.monitor_model.specs.Outcomes.{Outcome, Halts, Resumes, stacked, is_open, status_place}
@@ -203,7 +203,7 @@ module _ (i : Image) (t : Tables) (stub : ℕ) (s : State) (m : MonitorBlock) (p
       loan_count_is = ap (λ n. read 4 (b + 12) n) w ∙ word_same (b + 12) (length ls) memory (let r = block_room in omega (arith, r)) (let f = few in omega (arith, f));
       mark_is = at 16 (inr (omega arith)) ∙ c.is_block.mark_is;
       has_saved = saved_stay i t memory new m.saved (λ x lo hi. at x (inr (omega (arith, lo)))) c.is_block.has_saved;
-      has_loans = loans_stay i t memory new ls (λ x lo hi. at x (inr (omega (arith, lo)))) (subst (λ z. Rattle.monitor_model.specs.BlockWords.HasLoans i t memory z) e c.is_block.has_loans).1;
+      has_loans = loans_stay i t memory new ls (λ x lo hi. at x (inr (omega (arith, lo)))) (subst (λ z. HasLoans i t memory z) e c.is_block.has_loans).1;
     };
     is_memory = record { reads = λ w a h. ch.reads w a (⊎_elim (λ x. inl (omega (arith, x))) (λ x. inr (omega (arith, x))) h); as_long = ch.as_long };
     words_stay = λ z. absurd (let y : ls ≡ l ∷ ls = ap (λ (z : MonitorBlock). z.loans) z ∙ e in let n : length ls ≡ suc (length ls) = ap (λ l. length l) y in omega (arith, n));

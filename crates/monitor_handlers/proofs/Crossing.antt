@@ -17,7 +17,7 @@ use Rattle.monitor_steps.specs.Effect.{Outcome as PrivilegedOutcome, Halted, AtR
 use Rattle.monitor_steps.proofs.Gives.{word_same, word_fits}
 use Rattle.monitor_model.specs.declared.tables.TargetRecord.{TargetRecord}
 use Rattle.monitor_model.specs.declared.tables.Tables.{Tables}
-use Rattle.monitor_model.specs.Records.{compartment_at, nobody, number_of_slots, site_at, targets_of, last_with_entry, stack_end, rounded}
+use Rattle.monitor_model.specs.Records.{compartment_at, nobody, number_of_slots, site_at, targets_of, last_with_entry, stack_end, rounded, eighth}
 use Rattle.monitor_model.specs.Regions.{stack_region, regions_for}
 use Rattle.monitor_model.specs.Placed.{IsCompartment, IsEntry}
 use Rattle.monitor_model.specs.Block.{Saved, MonitorBlock, entered, left}
@@ -94,7 +94,7 @@ module _ (i : Image) (t : Tables) (stub : ℕ) (s : State) (m : MonitorBlock) (p
     saved_end =
         let z = saved_is.is_top in
         let f : z.0 ≤ 8 = (let x = z.3 in omega (arith, x)) in
-        let most : z.0 * Rattle.monitor_model.specs.Records.eighth t ≤ 8 * Rattle.monitor_model.specs.Records.eighth t = grind (arith, f) in
+        let most : z.0 * eighth t ≤ 8 * eighth t = grind (arith, f) in
         let at = z.1 in
         omega (arith, most, at)
 

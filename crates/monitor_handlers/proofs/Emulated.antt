@@ -1,5 +1,6 @@
 -- The access that the handler makes for its thread, and its end.
 use Rattle.std.proofs.Common.{◌≡◌, ℕ, ◌+◌, ◌*◌, ◌-◌, ◌%◌, ◌^◌, ◌<◌, ◌≤◌, true, false, List, length, nat_eq, refl, sym, ap, ◌∙◌, subst, arith}
+use Rattle.std.proofs.lemmas.Bool.Decides.{nat_tests}
 use Rattle.base_words.specs.declared.memory.Width.{Width}
 use Rattle.base_words.specs.declared.memory.Width.TheVariants.{Byte, Half, Word}
 use Rattle.base_words.specs.Width.{byte_count}
@@ -89,7 +90,7 @@ module _ (installed : Installed) (thread : State) (Good : ProtectionState → Ty
   loads_cfsr c h = λ u at closed k lt. (OfSystem (ap (λ q. q.handler) at.protection ∙ h) (within k lt), ForSystem (within k lt))
     where
       within : (k : ℕ) → k < 4 → in_system (CFSR + k) ≡ true
-      within k lt = search (Rattle.std.proofs.lemmas.Bool.Decides.nat_tests, arith)
+      within k lt = search (nat_tests, arith)
 
   -- CFSR into a register
   pub cfsr_within : {n to base : ℕ} {s : PrivilegedSteps} {ks : List PrivilegedSteps} {c : Core} {Q : Outcome → Type 0} → IsOff true c.protection → low_register c base ≡ CFSR → W n s ks (with_low c to c.status.cfsr) Q → W (1 + n) (Load Word to base 0 s) ks c Q

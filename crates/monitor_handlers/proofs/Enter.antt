@@ -1,14 +1,15 @@
 -- All of enter: the site, the target, the new TOP, the caller's words, the callee's frame, and the regions of its compartment.
 use Rattle.std.proofs.Common.{◌≡◌, ◌≢◌, ℕ, ◌+◌, ◌-◌, ◌*◌, ◌/◌, ◌%◌, ◌^◌, ◌<◌, ◌≤◌, ◌⊎◌, inl, inr, ⊎_elim, true, List, ◌∷◌, length, Option, Some, None, refl, sym, ap, ◌∙◌, subst, arith}
 use Rattle.std.proofs.lemmas.Bool.{cases_lt}
-use Rattle.std.proofs.Math.Nat.{div-mul-le_self}
+use Rattle.std.proofs.Math.Nat.{div-mul-le_self, mod_self}
 use Rattle.base_words.specs.Bytes.{read, write}
 use Rattle.machine_protection.specs.declared.TheConstants.{MPU_RBAR}
+use Rattle.machine_protection.specs.Configured.{written}
 use Rattle.machine_devices.specs.declared.image.Image.{Image}
 use Rattle.machine_model.specs.declared.state.ProtectionState.{ProtectionState}
 use Rattle.machine_model.specs.declared.state.FaultStatus.{FaultStatus}
 use Rattle.machine_model.specs.State.{by_mpu}
-use Rattle.monitor_steps.specs.Steps.{PrivilegedSteps}
+use Rattle.monitor_steps.specs.Steps.{PrivilegedSteps, ◌▸◌}
 use Rattle.monitor_steps.specs.Core.{Core}
 use Rattle.monitor_steps.specs.Effect.{Outcome, Halted, AtReturn}
 use Rattle.monitor_steps.proofs.Within.{GivesWithin, at_within, more_within}
@@ -18,9 +19,10 @@ use Rattle.monitor_model.specs.Records.{compartment_at, site_at, targets_of, las
 use Rattle.monitor_model.specs.Regions.{regions_for}
 use Rattle.monitor_model.specs.Placed.{Placed, IsEntry}
 use Rattle.monitor_program.specs.Constants.{Constants, constants_with}
-use Rattle.monitor_program.specs.Svc.{enter}
+use Rattle.monitor_program.specs.Svc.{enter, raise, save, frame as frame_steps, entered, rounded as rounded_steps, target}
+use Rattle.monitor_program.specs.Opening.{tables_of, closed_up}
 use Rattle.monitor_laws.proofs.Off.{core, with_unit, IsOff}
-use Rattle.monitor_laws.proofs.Written.{tables_within}
+use Rattle.monitor_laws.proofs.Written.{tables_within, open_stack}
 use Rattle.monitor_laws.proofs.Tables.{StackSize, stack_size, shaped, has_compartment, record_at, top_is, unit_is}
 use Rattle.monitor_laws.proofs.Placement.{writable}
 use Rattle.monitor_laws.proofs.Unlend.{closed_within}
@@ -33,6 +35,8 @@ use Rattle.monitor_laws.proofs.EnterSave.{Saves, Counted, raise_within, save_wit
 use Rattle.monitor_laws.proofs.EnterFrame.{Framed, frame_within}
 use Rattle.monitor_handlers.proofs.Targets.{SiteFits, compartment_of, target_is, to, site_targets, site_chosen}
 use Rattle.monitor_laws.proofs.Opened.{HandlerPremises}
+use Rattle.monitor_laws.specs.RegionsWritten.{Writable}
+use Rattle.base_ranges.specs.Ranges.{IsPowerBetween}
 
 -- what enter leaves of RAM in which the return address has been raised
 pub record HasEntered (i : Image) (t : Tables) (link psp o fo d current new_top entry : ℕ) (old new : List ℕ) : Type 0 where
@@ -102,7 +106,7 @@ module _ (i : Image) (t : Tables) (p : Placed i t) where
   -- ---- the new TOP
 
   size_is : StackSize t.stack.size
-  size_is = stack_size t.stack.size (subst (λ z. Rattle.base_ranges.specs.Ranges.IsPowerBetween 9 16 z) (sym p.stack_size) p.stack.size)
+  size_is = stack_size t.stack.size (subst (λ z. IsPowerBetween 9 16 z) (sym p.stack_size) p.stack.size)
 
   four_times : (n e : ℕ) → e % 4 ≡ 0 → (n * e) % 4 ≡ 0
   four_times n e h =
@@ -114,7 +118,7 @@ module _ (i : Image) (t : Tables) (p : Placed i t) where
   eighth_four : eighth t % 4 ≡ 0
   eighth_four =
       let z = size_is.eighths in
-      let a = size_is.aligned t.stack.size (Rattle.std.proofs.Math.Nat.mod_self t.stack.size) in
+      let a = size_is.aligned t.stack.size (mod_self t.stack.size) in
       omega (arith, z, a)
 
   -- of a frame in the stack with some eighth below it: where the new TOP lies
@@ -240,7 +244,7 @@ module _ (premises : HandlerPremises)
         -- from the new TOP on
         rest_within : (g : TargetRecord) {ks : List PrivilegedSteps} {Q : Outcome → Type 0} (a4 a7 : ℕ) → IsEntry t g.entry g.compartment → g.entry ≡ read 4 (o + 16) m →
             ((c : Core) → EndsEnter q o d ret g m c → Q (AtReturn c)) →
-            W 219 (Rattle.monitor_program.specs.Svc.raise (Rattle.monitor_program.specs.Svc.save (Rattle.monitor_program.specs.Svc.frame k (Rattle.monitor_program.specs.Svc.entered (Rattle.monitor_program.specs.Opening.tables_of k Rattle.monitor_program.specs.Opening.closed_up))))) ks
+            W 219 (raise ▸ save ▸ frame_steps k ▸ entered ▸ tables_of k ▸ closed_up) ks
             (core msp psp q u m psp k.block k.stack (rounded t psp) a4 g.compartment 0 a7) Q
         rest_within g {ks} {Q} a4 a7 is_entry wanted_is f =
             more_within
@@ -262,7 +266,7 @@ module _ (premises : HandlerPremises)
               left = entered_done i t p k.stub_entry psp o (rounded t psp - i.ram_base - 32) d g.compartment (rounded t psp) (g.entry - 1) top m1 m2 m3 m4 a.frame fo_frame fo_apart a.shallow s r c;
             })))))))) (omega arith)
           where
-            w : Rattle.monitor_laws.specs.RegionsWritten.Writable i t
+            w : Writable i t
             w = writable installed
 
             most : z.eighths ≤ 8
@@ -284,7 +288,7 @@ module _ (premises : HandlerPremises)
                 ∙ sym wanted_is
                 ∙ (let x = is_entry.odd in omega (arith, x))
 
-            regions_are : (q1 : ProtectionState) → q1 ≡ with_unit q (Rattle.machine_protection.specs.Configured.written ((compartment_at t g.compartment).code ∷ (Rattle.monitor_laws.proofs.Written.open_stack k z.eighths ∷ (compartment_at t g.compartment).slots)) q.mpu) → q1.mpu.regions ≡ regions_for i t g.compartment (rounded t psp)
+            regions_are : (q1 : ProtectionState) → q1 ≡ with_unit q (written ((compartment_at t g.compartment).code ∷ (open_stack k z.eighths ∷ (compartment_at t g.compartment).slots)) q.mpu) → q1.mpu.regions ≡ regions_for i t g.compartment (rounded t psp)
             regions_are q1 e = ap (λ p. p.mpu.regions) e ∙ unit_is i t w stub z.eighths (rounded t psp) g.compartment a.first.others q.mpu most is_entry.compartment_in z.at a.first.count a.first.regions
 
       abbrev last : Option TargetRecord
@@ -311,7 +315,7 @@ module _ (premises : HandlerPremises)
         picked_within : {ks : List PrivilegedSteps} {Q : Outcome → Type 0} (l : Option TargetRecord) (v4 v7 : ℕ) → last ≡ l → found ≢ 0xFFFFFFFF →
             ((c : Core) (g : TargetRecord) → c.ram ≡ m → last ≡ Some g → rounded t psp ≡ t.stack.base → Q (Halted 5 c)) →
             ((c : Core) (g : TargetRecord) → last ≡ Some g → IsEntry t g.entry g.compartment → NewTop i t p psp → EndsEnter q o d ret g m c → Q (AtReturn c)) →
-            W 244 (Rattle.monitor_program.specs.Svc.rounded k (Rattle.monitor_program.specs.Svc.raise (Rattle.monitor_program.specs.Svc.save (Rattle.monitor_program.specs.Svc.frame k (Rattle.monitor_program.specs.Svc.entered (Rattle.monitor_program.specs.Opening.tables_of k Rattle.monitor_program.specs.Opening.closed_up)))))) ks
+            W 244 (rounded_steps k ▸ raise ▸ save ▸ frame_steps k ▸ entered ▸ tables_of k ▸ closed_up) ks
             (core msp psp q u m psp k.block k.stack 0xFFFFFFFF v4 found 0 v7) Q
         picked_within None v4 v7 e n r5 go = absurd (n (found_is ∙ ap compartment_of e))
         picked_within {ks} {Q} (Some g) v4 v7 e n r5 go =
@@ -326,7 +330,7 @@ module _ (premises : HandlerPremises)
             ((c : Core) → c.ram ≡ m → last ≡ None → Q (Halted 3 c)) →
             ((c : Core) (g : TargetRecord) → c.ram ≡ m → last ≡ Some g → rounded t psp ≡ t.stack.base → Q (Halted 5 c)) →
             ((c : Core) (g : TargetRecord) → last ≡ Some g → IsEntry t g.entry g.compartment → NewTop i t p psp → EndsEnter q o d ret g m c → Q (AtReturn c)) →
-            W 1293 (Rattle.monitor_program.specs.Svc.target k (Rattle.monitor_program.specs.Svc.rounded k (Rattle.monitor_program.specs.Svc.raise (Rattle.monitor_program.specs.Svc.save (Rattle.monitor_program.specs.Svc.frame k (Rattle.monitor_program.specs.Svc.entered (Rattle.monitor_program.specs.Opening.tables_of k Rattle.monitor_program.specs.Opening.closed_up))))))) ks
+            W 1293 (target k ▸ rounded_steps k ▸ raise ▸ save ▸ frame_steps k ▸ entered ▸ tables_of k ▸ closed_up) ks
             (core msp psp q u m psp k.block k.stack top ret (site_at t (read 2 ro i.flash)).first (site_at t (read 2 ro i.flash)).count v7) Q
         target_on {ks} {Q} v7 r3 r5 go =
             more_within

@@ -35,6 +35,7 @@ use Rattle.monitor_model.specs.Outcomes.{Outcome as Comes, Halts, StopsAtBus, St
 use Rattle.monitor_model.specs.FaultOutcome.{fault_outcome}
 use Rattle.monitor_model.specs.MonitorLaw.{IsMemory, Shows, memfault_steps}
 use Rattle.monitor_model.specs.Promises.{OfSoundImages}
+use Rattle.monitor_model.specs.BlockWords.{IsBlock, words_end}
 use Rattle.monitor_program.specs.TheCode.{monitor_code}
 use Rattle.monitor_laws.specs.StartUp.{IsReady}
 use Rattle.monitor_laws.proofs.SoundImages.{sound_images_are_ready}
@@ -220,9 +221,9 @@ module _ (laws : FaultLaws) (i : Image) (t : Tables) (ready : IsReady i t) where
 
     left_as : (ram : List ℕ) → ram ≡ memory → LeavesRam i t b b memory ram
     left_as ram e = record {
-      is_block = subst (λ (m : List ℕ). Rattle.monitor_model.specs.BlockWords.IsBlock i t m b) (sym e) at_fault.is_block;
+      is_block = subst (λ (m : List ℕ). IsBlock i t m b) (sym e) at_fault.is_block;
       is_memory = same_memory i t 0 memory ram e;
-      words_stay = λ z. same_memory i t Rattle.monitor_model.specs.BlockWords.words_end memory ram e;
+      words_stay = λ z. same_memory i t words_end memory ram e;
     }
 
     shallow : length b.saved ≤ 8
@@ -239,9 +240,9 @@ module _ (laws : FaultLaws) (i : Image) (t : Tables) (ready : IsReady i t) where
       no_fault = ap (λ (v : FaultStatus). v.cfsr) done.status;
       enabled = ap (λ (v : FaultStatus). v.shcsr) done.status ∙ enabled_by fault;
       ram = record {
-        is_block = subst (λ (m : List ℕ). Rattle.monitor_model.specs.BlockWords.IsBlock i t m b) (sym done.ram) (block_stays i t memory after b shallow inv.inv.orderly.few stays at_fault.is_block);
+        is_block = subst (λ (m : List ℕ). IsBlock i t m b) (sym done.ram) (block_stays i t memory after b shallow inv.inv.orderly.few stays at_fault.is_block);
         is_memory = same_memory i t 0 after d.ram done.ram;
-        words_stay = λ z. same_memory i t Rattle.monitor_model.specs.BlockWords.words_end after d.ram done.ram;
+        words_stay = λ z. same_memory i t words_end after d.ram done.ram;
       };
       offset = o;
       at = psp_is;

@@ -16,22 +16,25 @@ use Rattle.machine_model.specs.declared.state.ProtectionState.{ProtectionState}
 use Rattle.machine_model.specs.declared.state.FaultStatus.{FaultStatus}
 use Rattle.machine_model.specs.declared.state.StopReason.TheVariants.{Unaligned}
 use Rattle.machine_model.specs.State.{State, by_mpu, is_unprivileged}
-use Rattle.monitor_steps.specs.Steps.{PrivilegedSteps, End, Load, Store}
+use Rattle.monitor_steps.specs.Steps.{PrivilegedSteps, End, Load, Store, ◌▸◌}
 use Rattle.monitor_steps.specs.Core.{Core}
 use Rattle.monitor_steps.specs.Effect.{Outcome, Halted, AtReturn, Stopped}
 use Rattle.monitor_steps.proofs.Gives.{word_fits}
 use Rattle.monitor_steps.proofs.Within.{GivesWithin, const_within, alu_within, at_within, more_within, next_within, must_within, halt_within, load_flash_within}
+use Rattle.monitor_steps.specs.declared.steps.PrivilegedCond.TheVariants.{Eq}
 use Rattle.monitor_model.specs.declared.tables.Tables.{Tables}
 use Rattle.monitor_model.specs.Records.{compartment_at, number_of_slots, stack_end, eighth}
-use Rattle.monitor_model.specs.Offsets.{record_mask, record_reads}
+use Rattle.monitor_model.specs.Offsets.{record_mask, record_reads, frame_r0, frame_return}
 use Rattle.monitor_model.specs.Block.{MonitorBlock}
 use Rattle.monitor_model.specs.BlockWords.{IsBlock, current, loan_count, top as top_of}
 use Rattle.monitor_model.specs.Reach.{running}
 use Rattle.monitor_model.specs.Invariant.{IsOrderly}
 use Rattle.monitor_model.specs.Outcomes.{Outcome as Comes, Halts, StopsAtBus, StopsUnaligned, Resumes, stacked, with_stacked, moved_on, is_open}
 use Rattle.monitor_model.specs.FaultOutcome.{is_lent, if_aligned, emulated_store, emulated_load, by_half, is_data_fault, fault_outcome}
+use Rattle.monitor_model.specs.Halts.{halt_fault}
 use Rattle.monitor_program.specs.Constants.{Constants, constants_with}
 use Rattle.monitor_program.specs.MemFault.{widths, stored, loaded, lent_load, finished, stores, loads, memfault}
+use Rattle.monitor_program.specs.Opening.{must}
 use Rattle.monitor_laws.proofs.Tables.{record_at, slots_are}
 use Rattle.monitor_laws.proofs.Placement.{writable, Installed}
 use Rattle.monitor_laws.proofs.Off.{core, with_unit, IsOff, open_while_off}
@@ -271,7 +274,7 @@ module _ (installed : Installed) (thread : State) (Good : ProtectionState → Ty
             ∙ frame_off 0 (read w (a - i.ram_base) m) m (omega arith) x h
 
         loaded_within : {ks : List PrivilegedSteps} (v1 v2 v7 x : ℕ) → is_lent (compartment_at t b.current).reads a w b.loans ≡ true → (al : Bool) → nat_eq (a % byte_count z) 0 ≡ al →
-            W 33 (loaded (Store Word 5 0 0 finished)) ks (core msp psp q u m psp v1 v2 0 a x w v7) LoadEnds
+            W 33 (loaded ▸ Store Word 5 0 frame_r0 ▸ finished) ks (core msp psp q u m psp v1 v2 0 a x w v7) LoadEnds
         loaded_within v1 v2 v7 x e true f =
             let l = found (compartment_at t b.current).reads w e in
             load_by_width installed thread Good good msp psp u z (a - i.ram_base) q m psp v1 v2 0 a x v7 off (in_ram (compartment_at t b.current).reads w l) (aligned_is z (compartment_at t b.current).reads l f) (in_size (compartment_at t b.current).reads z l)
@@ -407,7 +410,7 @@ module _ (installed : Installed) (thread : State) (Good : ProtectionState → Ty
         const_within (cfsr_within installed thread Good good off refl (const_within (alu_within (λ x5 e5. tested q1 v4 x5 (ap (λ v. with_unit v (record v.mpu { control = 5 })) eq ∙ on) off f e5 cause)))))) (omega arith)
       where
         tested : (q1 : ProtectionState) (v4 x5 : ℕ) → with_unit q1 (record q1.mpu { control = 5 }) ≡ r → IsOff true q1 → FrameIsOpen i t o m → x5 ≡ bit_and u.cfsr 0x82 → (u.cfsr ≡ 1) ⊎ ((u.cfsr ≡ 0x82) × HalfThere i o m half) →
-            W 1667 (Rattle.monitor_program.specs.Opening.must Rattle.monitor_steps.specs.declared.steps.PrivilegedCond.TheVariants.Eq 5 6 8 (Load Word 4 0 6 (Load Half 4 4 0 (widths 0x6008 0x7008 0x8008 (loads k t.closed) (stores k))))) [] (core msp psp q1 u m psp k.block k.stack top CFSR x5 0x82 0) (Ends (fault_outcome i t b psp m u.cfsr half))
+            W 1667 (must Eq 5 6 halt_fault ▸ Load Word 4 0 frame_return ▸ Load Half 4 4 0 ▸ widths 0x6008 0x7008 0x8008 (loads k t.closed) ▸ stores k) [] (core msp psp q1 u m psp k.block k.stack top CFSR x5 0x82 0) (Ends (fault_outcome i t b psp m u.cfsr half))
         tested q1 v4 x5 on1 off f e5 (inl c) =
             must_within {m = 1662}
             (λ e. subst (λ y. Ends y (Halted 8 (core msp psp q1 u m psp k.block k.stack top CFSR x5 0x82 0))) (sym (fetch_outcome half (open_is f) c)) (core msp psp q1 u m psp k.block k.stack top CFSR x5 0x82 0, refl, refl))

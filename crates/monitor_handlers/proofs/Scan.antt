@@ -2,7 +2,7 @@
 use Rattle.std.proofs.Common.{◌≡◌, ℕ, suc, ◌+◌, ◌-◌, ◌*◌, ◌%◌, ◌^◌, ◌<◌, ◌≤◌, Bool, true, false, List, [], ◌∷◌, ◌++◌, length, nat_eq, nat_le, refl, sym, ap, ◌∙◌, arith}
 use Rattle.std.proofs.lemmas.Bool.{false≢true}
 use Rattle.std.specs.Prelude.{bit_and, flat_map}
-use Rattle.base_words.specs.Arithmetic.{subtract, shift_right}
+use Rattle.base_words.specs.Arithmetic.{subtract, shift_right, add}
 use Rattle.base_words.specs.Bytes.{read}
 use Rattle.base_words.specs.declared.memory.Width.TheVariants.{Word}
 use Rattle.machine_protection.specs.declared.region.Access.TheVariants.{Read}
@@ -10,7 +10,7 @@ use Rattle.machine_model.specs.declared.state.ProtectionState.{ProtectionState}
 use Rattle.machine_model.specs.declared.state.FaultStatus.{FaultStatus}
 use Rattle.machine_model.specs.State.{State, by_mpu}
 use Rattle.monitor_steps.specs.declared.steps.PrivilegedOp.TheVariants.{Add}
-use Rattle.monitor_steps.specs.Steps.{PrivilegedSteps, End, Const, Load, Alu, Repeat}
+use Rattle.monitor_steps.specs.Steps.{PrivilegedSteps, End, Const, Load, Alu, Repeat, ◌▸◌}
 use Rattle.monitor_steps.specs.Core.{Core, low_register, with_low}
 use Rattle.monitor_steps.specs.Effect.{Outcome, Went, Halted, with_one_less}
 use Rattle.monitor_steps.proofs.Within.{GivesWithin, const_within, copy_within, alu_within, at_within, more_within, end_within, next_within, must_within, psp_within, load_within, load_flash_within, loop_within}
@@ -18,6 +18,7 @@ use Rattle.monitor_model.specs.Records.{compartment_at, number_of_slots, nobody}
 use Rattle.monitor_model.specs.Area.{region_words, compartment_words}
 use Rattle.monitor_model.specs.Placed.{IsCompartment}
 use Rattle.monitor_model.specs.BlockWords.{loan_address, loan_end, loan_number, top as top_of}
+use Rattle.monitor_model.specs.Values.{loan_size}
 use Rattle.monitor_program.specs.Constants.{Constants, constants_with}
 use Rattle.monitor_program.specs.MemFault.{loan_turn, scan}
 use Rattle.monitor_laws.proofs.FlashWords.{Has, has_back, has_record}
@@ -123,7 +124,7 @@ module _ (installed : Installed) where
         After n o = (d : Core) × (o ≡ Went d) × Scanning n (with_one_less 3 d)
 
         tail_within : (n v0 v1 v2 v7 d : ℕ) → d + suc n ≡ count → v2 ≡ t.monitor + (160 + 12 * d) → v7 ≡ hits i t m mask a w (suc d) →
-            W 6 (Const 0 12 (Alu Add 2 2 0 End)) [] (core msp psp q u m v0 v1 v2 (suc n) a mask w v7) (After n)
+            W 6 (Const 0 loan_size ▸ Alu Add 2 2 0 ▸ End) [] (core msp psp q u m v0 v1 v2 (suc n) a mask w v7) (After n)
         tail_within n v0 v1 v2 v7 d al at h =
             const_within (alu_within (λ y ey. end_within (
               _,
@@ -142,7 +143,7 @@ module _ (installed : Installed) where
             less : n < 32
             less = omega (arith, al, few)
 
-            further : (y : ℕ) → y ≡ Rattle.base_words.specs.Arithmetic.add v2 12 → y ≡ t.monitor + (160 + 12 * suc d)
+            further : (y : ℕ) → y ≡ add v2 12 → y ≡ t.monitor + (160 + 12 * suc d)
             further y e = let b = p.block_inside.1 in let r = p.rules.ram_highest in let z = p.rules.ram_most in omega (arith, e, at, al, few, b, r, z)
 
         turn_within : (n : ℕ) (c : Core) → Scanning (suc n) c → W 42 loan_turn [] c (After n)

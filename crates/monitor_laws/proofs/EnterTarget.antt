@@ -11,7 +11,7 @@ use Rattle.machine_model.specs.declared.state.FaultStatus.{FaultStatus}
 use Rattle.machine_model.specs.State.{by_mpu}
 use Rattle.monitor_steps.specs.declared.steps.PrivilegedOp.TheVariants.{Add}
 use Rattle.monitor_steps.specs.declared.steps.PrivilegedCond.TheVariants.{Eq}
-use Rattle.monitor_steps.specs.Steps.{PrivilegedSteps, End, Const, Load, Alu, Test}
+use Rattle.monitor_steps.specs.Steps.{PrivilegedSteps, End, Const, Load, Alu, Test, ◌▸◌}
 use Rattle.monitor_steps.specs.Core.{Core, low_register}
 use Rattle.monitor_steps.specs.Effect.{Outcome, Went, Halted, with_one_less}
 use Rattle.monitor_steps.proofs.Within.{GivesWithin, const_within, alu_within, at_within, more_within, must_not_within, yes_within, no_within, next_within, end_within, loop_within}
@@ -23,6 +23,8 @@ use Rattle.monitor_laws.proofs.Opened.{eq_false, HandlerPremises}
 use Rattle.monitor_laws.proofs.HandlerWords.{InStack, frame_load_within}
 use Rattle.monitor_laws.proofs.EnterSite.{flash_word_within}
 use Rattle.monitor_laws.proofs.Placement.{Installed}
+use Rattle.monitor_model.specs.Offsets.{target_compartment}
+use Rattle.monitor_model.specs.Values.{target_size}
 
 -- of so many targets from an offset of flash on, the compartment of the last with this entry, or all ones
 abbrev pub chosen : (flash : List ℕ) → (o e : ℕ) → ℕ → ℕ
@@ -36,6 +38,10 @@ pub record HasTargets (installed : Installed) (first count to : ℕ) : Type 0 wh
   pub aligned : to % 4 ≡ 0
   pub room : to + 8 * count ≤ length installed.image.flash
   pub few : count ≤ 64
+
+-- the end of a turn: to the next target
+abbrev next_target : PrivilegedSteps
+next_target = Const 3 target_size ▸ Alu Add 7 7 3 ▸ End
 
 module _ (premises : HandlerPremises) where
   open premises use {installed.{image as i, tables as t, placed as p, stub}, Good, Allowed, entry_top}
@@ -87,7 +93,7 @@ module _ (premises : HandlerPremises) where
         next_all : r.done + suc n ≡ count → suc r.done + n ≡ count
         next_all a = omega (arith, a)
 
-        tail_within : (v3 v5 : ℕ) → v5 ≡ chosen i.flash to e (suc r.done) → W 6 (Const 3 8 (Alu Add 7 7 3 End)) [] (core msp psp q u m a0 a1 a2 v3 e v5 (suc n) r.v7) Done
+        tail_within : (v3 v5 : ℕ) → v5 ≡ chosen i.flash to e (suc r.done) → W 6 next_target [] (core msp psp q u m a0 a1 a2 v3 e v5 (suc n) r.v7) Done
         tail_within v3 v5 ch =
             const_within (alu_within (λ w7 e7. end_within (
               _,
@@ -105,7 +111,7 @@ module _ (premises : HandlerPremises) where
         picked : (b : Bool) (v3 x y : ℕ) → v3 ≡ read 4 (to + 8 * r.done) i.flash → nat_eq v3 e ≡ b → choose (nat_eq (read 4 (to + 8 * r.done) i.flash) e) x y ≡ choose b x y
         picked b v3 x y e3 h = ap (λ b. choose b x y) (ap (λ v. nat_eq v e) (sym e3) ∙ h)
 
-        tested : (v3 : ℕ) → v3 ≡ read 4 (to + 8 * r.done) i.flash → (b : Bool) → nat_eq v3 e ≡ b → W 11 (Test Eq 3 4 (Load Word 5 7 1 End) End (Const 3 8 (Alu Add 7 7 3 End))) [] (core msp psp q u m a0 a1 a2 v3 e (chosen i.flash to e r.done) (suc n) r.v7) Done
+        tested : (v3 : ℕ) → v3 ≡ read 4 (to + 8 * r.done) i.flash → (b : Bool) → nat_eq v3 e ≡ b → W 11 (Test Eq 3 4 (Load Word 5 7 target_compartment ▸ End) End ▸ next_target) [] (core msp psp q u m a0 a1 a2 v3 e (chosen i.flash to e r.done) (suc n) r.v7) Done
         tested v3 e3 true h =
             yes_within h
             (flash_word_within premises (to + 8 * r.done) 1 off r.at (here_aligned r.done) (here_room r.done 1 r.all_of (omega arith)) (λ v5 e5.

@@ -30,6 +30,7 @@ use Rattle.monitor_laws.proofs.Opened.{eq_false, block_load_within, block_store_
 use Rattle.monitor_laws.proofs.Unlend.{closed_within}
 use Rattle.monitor_laws.proofs.HandlerWords.{write_psp_within, InStack, entry_load_within, frame_load_within, frame_store_within}
 use Rattle.monitor_laws.proofs.LeaveWords.{Leaving, HasLeft, Five, FiveSay, five_others, one_less, entry_is, whole_word, five_say, all_left}
+use Rattle.monitor_laws.specs.RegionsWritten.{Writable}
 
 -- regions 0 and 1 are those of the tables, and there are as many others as a compartment has
 pub record HasFirstRegions (i : Image) (t : Tables) (u : Registers) : Type 0 where
@@ -104,7 +105,7 @@ module _ (premises : HandlerPremises) where
         closed_within premises msp (i.ram_base + back) u q1 m6 MPU_RBAR k.block y2 top v5 current y6 y7 off1 (on q1 e1 (regions_are q1 e1)) (λ q2 e2.
         f q2 m6 MPU_RBAR y2 v5 MPU_CTRL 5 (e2 ∙ ap (λ p. with_unit p (record p.mpu { control = 5 })) e1) (ap (λ p. p.mpu.regions) e2 ∙ regions_are q1 e1) done))))))))))))))))))))))))) (omega arith)
       where
-        w : Rattle.monitor_laws.specs.RegionsWritten.Writable i t
+        w : Writable i t
         w = writable installed
 
         n : ℕ

@@ -14,7 +14,7 @@ use Rattle.machine_model.specs.State.{by_mpu, is_unprivileged}
 use Rattle.machine_model.specs.System.{in_system, is_system_register, write_status, read_system}
 use Rattle.machine_model.proofs.ToSystem.{to_system}
 use Rattle.monitor_steps.specs.Steps.{PrivilegedSteps, Load, Store}
-use Rattle.monitor_steps.specs.Core.{Core, low_register, with_low}
+use Rattle.monitor_steps.specs.Core.{Core, low_register, with_low, with_system}
 use Rattle.monitor_steps.specs.Accesses.{Value, address_of, load}
 use Rattle.monitor_steps.specs.Effect.{Outcome}
 use Rattle.monitor_steps.specs.Safe.{Rule}
@@ -109,7 +109,7 @@ module _ (i : Image) (rules : ObeysRules i) (Good : ProtectionState → Type 0) 
         let q : ProtectionState = with_unit p (record p.mpu { control = v }) in
         let small : v % 8 ≡ v = omega arith in
         let e : write_register MPU_CTRL v p.mpu ≡ record p.mpu { control = v } = control_written v p.mpu ∙ ap (λ v. record p.mpu { control = v }) small in
-        let same : Rattle.monitor_steps.specs.Core.with_system c1 MPU_CTRL v ≡ core msp psp q u m a0 a1 a2 a3 a4 a5 MPU_CTRL v =
+        let same : with_system c1 MPU_CTRL v ≡ core msp psp q u m a0 a1 a2 a3 a4 a5 MPU_CTRL v =
         ap (λ r. record c1 { protection = with_unit p r; status = write_status MPU_CTRL v u }) e ∙ ap (λ s. record c1 { protection = q; status = s }) (status_stays MPU_CTRL v u (inl refl)) in
         const_within (const_within
         (system_within MPU_CTRL priv refl refl (omega arith) refl refl (allows.system _ MPU_CTRL mode refl refl) (subst Good (ap (λ c. c.protection) (sym same)) ok)

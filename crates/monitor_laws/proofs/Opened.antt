@@ -6,6 +6,7 @@ use Rattle.std.specs.Prelude.{bit_and}
 use Rattle.std.proofs.lemmas.Bool.{eqb-true, leb-true}
 use Rattle.base_words.specs.declared.memory.Width.TheVariants.{Word}
 use Rattle.base_words.specs.Bytes.{read, write}
+use Rattle.base_words.specs.Arithmetic.{subtract}
 use Rattle.machine_protection.specs.declared.region.Access.{Access}
 use Rattle.machine_protection.specs.declared.region.Access.TheVariants.{Read, Write}
 use Rattle.machine_protection.specs.declared.TheConstants.{MPU_CTRL}
@@ -15,7 +16,7 @@ use Rattle.machine_model.specs.declared.state.ProtectionState.{ProtectionState}
 use Rattle.machine_model.specs.declared.state.FaultStatus.{FaultStatus}
 use Rattle.machine_model.specs.State.{by_mpu, is_unprivileged}
 use Rattle.monitor_steps.specs.Steps.{PrivilegedSteps, Load, Store}
-use Rattle.monitor_steps.specs.Core.{Core, low_register}
+use Rattle.monitor_steps.specs.Core.{Core, low_register, with_low, with_ram}
 use Rattle.monitor_steps.specs.Effect.{Outcome, Halted}
 use Rattle.monitor_steps.specs.Safe.{Rule}
 use Rattle.monitor_steps.proofs.Gives.{word_fits}
@@ -97,13 +98,13 @@ module _ (premises : HandlerPremises) where
 
   -- a word of the block, whose address a register has
   pub block_load_within : (off : ℕ) {n to b : ℕ} {s : PrivilegedSteps} {ks : List PrivilegedSteps} {c : Core} {Q : Outcome → Type 0} → IsOff true c.protection → low_register c b ≡ k.block → nat_lt off 136 ≡ true →
-      ((v : ℕ) → v ≡ read 4 (block + 4 * off) c.ram → W n s ks (Rattle.monitor_steps.specs.Core.with_low c to v) Q) → W (1 + n) (Load Word to b off s) ks c Q
+      ((v : ℕ) → v ≡ read 4 (block + 4 * off) c.ram → W n s ks (with_low c to v) Q) → W (1 + n) (Load Word to b off s) ks c Q
   block_load_within off {b = b} {c = c} q e h f =
       let z : off < 136 = grind (arith, nat_tests, h) in
       load_within rules (block + 4 * off) (open_while_off c.protection q.control) (block_at off (low_register c b) e) (block_aligned off) (block_room off z) (handles.block Read c (4 * off) q.mode (omega (arith, z))) f
 
   pub block_store_within : (off : ℕ) {n from b : ℕ} {s : PrivilegedSteps} {ks : List PrivilegedSteps} {c : Core} {Q : Outcome → Type 0} → IsOff true c.protection → low_register c b ≡ k.block → nat_lt off 136 ≡ true →
-      ((m : List ℕ) → m ≡ write 4 (block + 4 * off) (low_register c from) c.ram → length m ≡ length c.ram → W n s ks (Rattle.monitor_steps.specs.Core.with_ram c m) Q) → W (1 + n) (Store Word from b off s) ks c Q
+      ((m : List ℕ) → m ≡ write 4 (block + 4 * off) (low_register c from) c.ram → length m ≡ length c.ram → W n s ks (with_ram c m) Q) → W (1 + n) (Store Word from b off s) ks c Q
   block_store_within off {from = from} {b = b} {c = c} q e h f =
       let z : off < 136 = grind (arith, nat_tests, h) in
       store_within rules (block + 4 * off) (open_while_off c.protection q.control) (good c.protection q) (block_at off (low_register c b) e) (block_aligned off) (block_room off z) (handles.block Write c (4 * off) q.mode (omega (arith, z))) f
@@ -143,10 +144,10 @@ module _ (premises : HandlerPremises) where
         not_high : (top : ℕ) → top ≡ read 4 (block + 4) m → top < psp → i.ram_base + o + 32 ≤ read 4 (block + 4) m → ⊥
         not_high top e l x = omega (arith, e, l, x, ep)
 
-        is_high : (top d : ℕ) → top ≡ read 4 (block + 4) m → psp ≤ top → d ≡ Rattle.base_words.specs.Arithmetic.subtract top psp → 32 ≤ d → i.ram_base + o + 32 ≤ read 4 (block + 4) m
+        is_high : (top d : ℕ) → top ≡ read 4 (block + 4) m → psp ≤ top → d ≡ subtract top psp → 32 ≤ d → i.ram_base + o + 32 ≤ read 4 (block + 4) m
         is_high top d e l ed x = let f = word_fits (block + 4) m in omega (arith, e, l, ed, x, ep, f)
 
-        not_room : (top d : ℕ) → top ≡ read 4 (block + 4) m → psp ≤ top → d ≡ Rattle.base_words.specs.Arithmetic.subtract top psp → d < 32 → i.ram_base + o + 32 ≤ read 4 (block + 4) m → ⊥
+        not_room : (top d : ℕ) → top ≡ read 4 (block + 4) m → psp ≤ top → d ≡ subtract top psp → d < 32 → i.ram_base + o + 32 ≤ read 4 (block + 4) m → ⊥
         not_room top d e l ed x h = let f = word_fits (block + 4) m in omega (arith, e, l, ed, x, ep, f, h)
 
         frame_at : psp ≡ i.ram_base + o → psp + 4 * 7 ≡ i.ram_base + (o + 28)

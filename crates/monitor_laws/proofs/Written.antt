@@ -1,6 +1,7 @@
 -- The tables of a compartment are written: regions 2, 3 and its slots.
 use Rattle.std.proofs.Common.{◌≡◌, ℕ, ◌+◌, ◌-◌, ◌*◌, ◌/◌, ◌%◌, ◌^◌, ◌<◌, ◌≤◌, inl, inr, Bool, true, false, List, [], ◌∷◌, length, refl, sym, ap, ◌∙◌, subst, arith}
 use Rattle.std.specs.Prelude.{bit_and}
+use Rattle.std.proofs.lemmas.Nat.{pow_pos}
 use Rattle.base_words.specs.Bytes.{read}
 use Rattle.base_words.specs.declared.memory.Width.TheVariants.{Word}
 use Rattle.machine_protection.specs.declared.region.Region.{Region}
@@ -12,13 +13,13 @@ use Rattle.machine_devices.specs.Rules.{ObeysRules}
 use Rattle.machine_model.specs.declared.state.ProtectionState.{ProtectionState}
 use Rattle.machine_model.specs.declared.state.FaultStatus.{FaultStatus}
 use Rattle.machine_model.specs.State.{by_mpu}
-use Rattle.monitor_steps.specs.Steps.{PrivilegedSteps, Load, Store}
+use Rattle.monitor_steps.specs.Steps.{PrivilegedSteps}
 use Rattle.monitor_steps.specs.Core.{Core}
 use Rattle.monitor_steps.specs.Effect.{Outcome}
 use Rattle.monitor_steps.specs.Safe.{Rule}
 use Rattle.monitor_steps.proofs.Within.{GivesWithin, const_within, alu_within, more_within, load_flash_within}
 use Rattle.monitor_program.specs.Constants.{Constants}
-use Rattle.monitor_program.specs.Opening.{bits_of, times, record_of, regions, stack_region, tables_of}
+use Rattle.monitor_program.specs.Opening.{bits_of, times, record_of, regions, stack_region, tables_of, region}
 use Rattle.monitor_laws.proofs.Numbers.{shl3, shl8, shr_by, times_over, srd_is, srd_word, horner, Small, times_is, times_ticks, product_ticks}
 use Rattle.monitor_laws.proofs.Off.{core, with_unit, IsOff, Allows, open_while_off, status_stays, rbar_control, rasr_control, unit_within}
 
@@ -56,7 +57,7 @@ module _ (i : Image) (rules : ObeysRules i) (t : Constants) (Good : ProtectionSt
     pub region_within : (g : Region) (o fo : ℕ) {b w : ℕ} {k : PrivilegedSteps} {ks : List PrivilegedSteps} {Q : Outcome → Type 0} (q : ProtectionState) (m : List ℕ) (a1 a2 a3 a4 a5 a6 a7 : ℕ) → IsOff h q → a6 ≡ i.flash_base + o → fo ≡ o + 4 * w → o % 4 ≡ 0 → fo + 8 ≤ length i.flash →
         read 4 fo i.flash ≡ g.rbar → read 4 (fo + 4) i.flash ≡ g.rasr →
         ((p : ProtectionState) (v7 : ℕ) → p ≡ with_unit q (written (g ∷ []) q.mpu) → IsOff h p → W b k ks (core msp psp p u m MPU_RBAR a1 a2 a3 a4 a5 a6 v7) Q) →
-        W (1 + (1 + (1 + (1 + b)))) (Load Word 7 6 w (Store Word 7 0 0 (Load Word 7 6 (w + 1) (Store Word 7 0 1 k)))) ks (core msp psp q u m MPU_RBAR a1 a2 a3 a4 a5 a6 a7) Q
+        W (1 + (1 + (1 + (1 + b)))) (region w k) ks (core msp psp q u m MPU_RBAR a1 a2 a3 a4 a5 a6 a7) Q
     region_within g o fo {b} {w} {k} {ks} {Q} q m a1 a2 a3 a4 a5 a6 a7 off e6 efo al hi h1 h2 f =
         let flash_al = rules.flash_aligned in
         load_flash_within rules fo {z = Word} (open_while_off q off.control) (omega arith) (omega arith) (omega arith) (allows.flash _ 4 fo (omega arith)) (λ v ev.
@@ -122,7 +123,7 @@ module _ (i : Image) (rules : ObeysRules i) (t : Constants) (Good : ProtectionSt
         (const_within (alu_within (λ d ed.
         let de : d ≡ n * 2 ^ t.eighth = omega (arith, ed, et, hi, ge) in
         const_within (alu_within (λ v ev.
-        let ve : v ≡ n = shr_by d t.eighth v ev (omega (arith, most)) ∙ ap (λ d. d / 2 ^ t.eighth) de ∙ times_over n (2 ^ t.eighth) (Rattle.std.proofs.lemmas.Nat.pow_pos t.eighth) in
+        let ve : v ≡ n = shr_by d t.eighth v ev (omega (arith, most)) ∙ ap (λ d. d / 2 ^ t.eighth) de ∙ times_over n (2 ^ t.eighth) (pow_pos t.eighth) in
         const_within (alu_within (λ x ex. const_within (alu_within (λ y ey.
         let ye : y ≡ 256 - 2 ^ n = ey ∙ ap (λ x. bit_and x 255) (srd_word n v x ve ex) ∙ srd_is n some few in
         const_within (alu_within (λ z ez.
