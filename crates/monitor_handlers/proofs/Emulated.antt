@@ -104,54 +104,54 @@ module _ (installed : Installed) (thread : State) (Good : ProtectionState → Ty
   module _ (msp psp : ℕ) (u : FaultStatus) where
     -- ---- by the width in r6
 
-    pub store_by_width : (z : Width) (ao : ℕ) {n : ℕ} {s : PrivilegedSteps} {ks : List PrivilegedSteps} {Q : Outcome → Type 0} (q : ProtectionState) (m : List ℕ) (a0 a1 a2 a3 a a5 a7 : ℕ) → IsOff true q → a ≡ i.ram_base + ao → (i.ram_base + ao) % byte_count z ≡ 0 → ao < i.ram_size →
+    pub store_by_width : (z : Width) (ao : ℕ) {n : ℕ} {s : PrivilegedSteps} {ks : List PrivilegedSteps} {Q : Outcome → Type 0} {q : ProtectionState} {m : List ℕ} {a0 a1 a2 a3 : ℕ} (a : ℕ) {a5 a7 : ℕ} → IsOff true q → a ≡ i.ram_base + ao → (i.ram_base + ao) % byte_count z ≡ 0 → ao < i.ram_size →
         ((c : Core) → c.ram ≡ m → HandlerRule i t thread Write c (byte_count z) (i.ram_base + ao)) →
         ((m1 : List ℕ) (v7 : ℕ) → m1 ≡ write (byte_count z) ao a5 m → length m1 ≡ length m → W n s ks (core msp psp q u m1 a0 a1 a2 a3 a a5 (byte_count z) v7) Q) →
         W (13 + n) (stored s) ks (core msp psp q u m a0 a1 a2 a3 a a5 (byte_count z) a7) Q
-    store_by_width Word ao q m a0 a1 a2 a3 a a5 a7 off e al hi ok f =
+    store_by_width Word ao {q} a off e al hi ok f =
         more_within (const_within (yes_within refl (store_wide_within p.rules ao Word (open_while_off q off.control) (good q off) e al hi (ok _ refl) (λ m1 x l. next_within (f m1 4 x l))))) (omega arith)
-    store_by_width Byte ao q m a0 a1 a2 a3 a a5 a7 off e al hi ok f =
+    store_by_width Byte ao {q} a off e al hi ok f =
         more_within (const_within (no_within refl (const_within (yes_within refl (store_wide_within p.rules ao Byte (open_while_off q off.control) (good q off) e al hi (ok _ refl) (λ m1 x l. next_within (next_within (f m1 1 x l)))))))) (omega arith)
-    store_by_width Half ao q m a0 a1 a2 a3 a a5 a7 off e al hi ok f =
+    store_by_width Half ao {q} a off e al hi ok f =
         more_within (const_within (no_within refl (const_within (no_within refl (store_wide_within p.rules ao Half (open_while_off q off.control) (good q off) e al hi (ok _ refl) (λ m1 x l. next_within (next_within (f m1 1 x l)))))))) (omega arith)
 
-    pub store_by_width_stops : (z : Width) {s : PrivilegedSteps} {ks : List PrivilegedSteps} {Q : Outcome → Type 0} (q : ProtectionState) (m : List ℕ) (a0 a1 a2 a3 a a5 a7 : ℕ) → a < 2 ^ 32 → nat_eq (a % byte_count z) 0 ≡ false →
+    pub store_by_width_stops : (z : Width) {s : PrivilegedSteps} {ks : List PrivilegedSteps} {Q : Outcome → Type 0} {q : ProtectionState} {m : List ℕ} {a0 a1 a2 a3 : ℕ} (a : ℕ) {a5 a7 : ℕ} → a < 2 ^ 32 → nat_eq (a % byte_count z) 0 ≡ false →
         ((c : Core) → c.ram ≡ m → HandlerRule i t thread Write c (byte_count z) a) → ((d : Core) → d.ram ≡ m → Q (Stopped Unaligned d)) →
         W 13 (stored s) ks (core msp psp q u m a0 a1 a2 a3 a a5 (byte_count z) a7) Q
-    store_by_width_stops Word q m a0 a1 a2 a3 a a5 a7 lt odd ok f =
+    store_by_width_stops Word a lt odd ok f =
         more_within (const_within (yes_within refl (store_unaligned_within a Word refl lt odd (ok _ refl) (f _ refl)))) (omega arith)
-    store_by_width_stops Byte q m a0 a1 a2 a3 a a5 a7 lt odd ok f =
+    store_by_width_stops Byte a lt odd ok f =
         more_within (const_within (no_within refl (const_within (yes_within refl (store_unaligned_within a Byte refl lt odd (ok _ refl) (f _ refl)))))) (omega arith)
-    store_by_width_stops Half q m a0 a1 a2 a3 a a5 a7 lt odd ok f =
+    store_by_width_stops Half a lt odd ok f =
         more_within (const_within (no_within refl (const_within (no_within refl (store_unaligned_within a Half refl lt odd (ok _ refl) (f _ refl)))))) (omega arith)
 
-    pub load_by_width : (z : Width) (ao : ℕ) {n : ℕ} {s : PrivilegedSteps} {ks : List PrivilegedSteps} {Q : Outcome → Type 0} (q : ProtectionState) (m : List ℕ) (a0 a1 a2 a3 a a5 a7 : ℕ) → IsOff true q → a ≡ i.ram_base + ao → (i.ram_base + ao) % byte_count z ≡ 0 → ao < i.ram_size →
+    pub load_by_width : (z : Width) (ao : ℕ) {n : ℕ} {s : PrivilegedSteps} {ks : List PrivilegedSteps} {Q : Outcome → Type 0} {q : ProtectionState} {m : List ℕ} {a0 a1 a2 a3 : ℕ} (a : ℕ) {a5 a7 : ℕ} → IsOff true q → a ≡ i.ram_base + ao → (i.ram_base + ao) % byte_count z ≡ 0 → ao < i.ram_size →
         ((c : Core) → c.ram ≡ m → HandlerRule i t thread Read c (byte_count z) (i.ram_base + ao)) →
         ((v v7 : ℕ) → v ≡ read (byte_count z) ao m → W n s ks (core msp psp q u m a0 a1 a2 a3 a v (byte_count z) v7) Q) →
         W (13 + n) (loaded s) ks (core msp psp q u m a0 a1 a2 a3 a a5 (byte_count z) a7) Q
-    load_by_width Word ao q m a0 a1 a2 a3 a a5 a7 off e al hi ok f =
+    load_by_width Word ao {q} a off e al hi ok f =
         more_within (const_within (yes_within refl (load_wide_within p.rules ao Word (open_while_off q off.control) e al hi (ok _ refl) (λ v x. next_within (f v 4 x))))) (omega arith)
-    load_by_width Byte ao q m a0 a1 a2 a3 a a5 a7 off e al hi ok f =
+    load_by_width Byte ao {q} a off e al hi ok f =
         more_within (const_within (no_within refl (const_within (yes_within refl (load_wide_within p.rules ao Byte (open_while_off q off.control) e al hi (ok _ refl) (λ v x. next_within (next_within (f v 1 x)))))))) (omega arith)
-    load_by_width Half ao q m a0 a1 a2 a3 a a5 a7 off e al hi ok f =
+    load_by_width Half ao {q} a off e al hi ok f =
         more_within (const_within (no_within refl (const_within (no_within refl (load_wide_within p.rules ao Half (open_while_off q off.control) e al hi (ok _ refl) (λ v x. next_within (next_within (f v 1 x)))))))) (omega arith)
 
-    pub load_by_width_stops : (z : Width) {s : PrivilegedSteps} {ks : List PrivilegedSteps} {Q : Outcome → Type 0} (q : ProtectionState) (m : List ℕ) (a0 a1 a2 a3 a a5 a7 : ℕ) → a < 2 ^ 32 → nat_eq (a % byte_count z) 0 ≡ false →
+    pub load_by_width_stops : (z : Width) {s : PrivilegedSteps} {ks : List PrivilegedSteps} {Q : Outcome → Type 0} {q : ProtectionState} {m : List ℕ} {a0 a1 a2 a3 : ℕ} (a : ℕ) {a5 a7 : ℕ} → a < 2 ^ 32 → nat_eq (a % byte_count z) 0 ≡ false →
         ((c : Core) → c.ram ≡ m → HandlerRule i t thread Read c (byte_count z) a) → ((d : Core) → d.ram ≡ m → Q (Stopped Unaligned d)) →
         W 13 (loaded s) ks (core msp psp q u m a0 a1 a2 a3 a a5 (byte_count z) a7) Q
-    load_by_width_stops Word q m a0 a1 a2 a3 a a5 a7 lt odd ok f =
+    load_by_width_stops Word a lt odd ok f =
         more_within (const_within (yes_within refl (load_unaligned_within a Word refl lt odd (ok _ refl) (f _ refl)))) (omega arith)
-    load_by_width_stops Byte q m a0 a1 a2 a3 a a5 a7 lt odd ok f =
+    load_by_width_stops Byte a lt odd ok f =
         more_within (const_within (no_within refl (const_within (yes_within refl (load_unaligned_within a Byte refl lt odd (ok _ refl) (f _ refl)))))) (omega arith)
-    load_by_width_stops Half q m a0 a1 a2 a3 a a5 a7 lt odd ok f =
+    load_by_width_stops Half a lt odd ok f =
         more_within (const_within (no_within refl (const_within (no_within refl (load_unaligned_within a Half refl lt odd (ok _ refl) (f _ refl)))))) (omega arith)
 
     -- ---- the end: the return address rises by 2, CFSR is cleared, and the unit is on again
 
-    pub finished_within : (o top : ℕ) (r : ProtectionState) {ks : List PrivilegedSteps} {Q : Outcome → Type 0} (q : ProtectionState) (m : List ℕ) (a1 a2 a3 a4 a5 a6 a7 : ℕ) → IsOff true q → psp ≡ i.ram_base + o → InStack i t o top → i.ram_base + (o + 32) ≤ top_of i t thread.ram → read 4 (block + 4) m ≡ top → u.cfsr ≡ 0x82 →
+    pub finished_within : (o top : ℕ) (r : ProtectionState) {ks : List PrivilegedSteps} {Q : Outcome → Type 0} {q : ProtectionState} {m : List ℕ} {a1 a2 a3 a4 a5 a6 a7 : ℕ} → IsOff true q → psp ≡ i.ram_base + o → InStack i t o top → i.ram_base + (o + 32) ≤ top_of i t thread.ram → read 4 (block + 4) m ≡ top → u.cfsr ≡ 0x82 →
         with_unit q (record q.mpu { control = 5 }) ≡ r → Good r → ((d : Core) → IsDone msp psp r u (moved_on i psp m) d → Q (AtReturn d)) →
         W 19 finished ks (core msp psp q u m psp a1 a2 a3 a4 a5 a6 a7) Q
-    finished_within o top r {ks} {Q} q m a1 a2 a3 a4 a5 a6 a7 off ep io below et ec on good_on f =
+    finished_within o top r {ks} {Q} {q} {m} {a1} {a2} {a3} {a6} {a7} off ep io below et ec on good_on f =
         more_within
         (frame_load_within premises o top 6 off io below ep refl et (λ v4 e4.
         const_within (alu_within (λ x ex.
@@ -159,7 +159,7 @@ module _ (installed : Installed) (thread : State) (Good : ProtectionState → Ty
         const_within (cfsr_within off refl
         (system_within CFSR off.privileged refl refl (omega arith) refl refl (handles.plain.system _ CFSR off.mode refl refl) (good_after m1)
         (at_within (same m1)
-        (closed_within premises msp psp (record u { cfsr = 0 }) q m1 psp a1 a2 a3 CFSR u.cfsr a6 a7 off (subst Good (sym on) good_on) (λ q1 e1.
+        (closed_within premises msp psp (record u { cfsr = 0 }) off (subst Good (sym on) good_on) (λ q1 e1.
         f _ (record { sp = refl; other_sp = refl; protection = e1 ∙ on; status = refl; ram = w1 ∙ moved_is i psp o x v4 m ep e4 ex }))))))))))) (omega arith)
       where
         same : (m1 : List ℕ) → with_system (core msp psp q u m1 psp a1 a2 a3 CFSR u.cfsr a6 a7) CFSR u.cfsr ≡ core msp psp q (record u { cfsr = 0 }) m1 psp a1 a2 a3 CFSR u.cfsr a6 a7

@@ -242,18 +242,18 @@ module _ (premises : HandlerPremises)
         psp_new = let e = fo_is in omega (arith, e)
 
         -- from the new TOP on
-        rest_within : (g : TargetRecord) {ks : List PrivilegedSteps} {Q : Outcome → Type 0} (a4 a7 : ℕ) → IsEntry t g.entry g.compartment → g.entry ≡ read 4 (o + 16) m →
+        rest_within : (g : TargetRecord) {ks : List PrivilegedSteps} {Q : Outcome → Type 0} {a4 a7 : ℕ} → IsEntry t g.entry g.compartment → g.entry ≡ read 4 (o + 16) m →
             ((c : Core) → EndsEnter q o d ret g m c → Q (AtReturn c)) →
             W 219 (raise ▸ save ▸ frame_steps k ▸ entered ▸ tables_of k ▸ closed_up) ks
             (core msp psp q u m psp k.block k.stack (rounded t psp) a4 g.compartment 0 a7) Q
-        rest_within g {ks} {Q} a4 a7 is_entry wanted_is f =
+        rest_within g {ks} {Q} is_entry wanted_is f =
             more_within
-            (raise_within premises msp psp u o top ret q m k.block k.stack (rounded t psp) a4 g.compartment 0 a7 a.off a.at a.frame a.below a.top_is a.return_is return_low (λ v4 m1 w1 z1.
-            save_within premises msp psp u d q m1 k.stack (rounded t psp) v4 g.compartment 2 a7 a.off a.shallow (depth1 m1 w1) (z1 ∙ a.as_long) psp_small (λ y6 y7 m2 s.
-            frame_within premises msp psp u o (rounded t psp - i.ram_base - 32) top (g.entry - 1) (rounded t psp) q m2 k.block k.stack d g.compartment y6 y7 a.off a.at a.frame a.below fo_frame fo_apart fo_is (top2 m1 m2 w1 s) (wanted2 m1 m2 w1 s) (omega arith) (s.changed.as_long ∙ z1 ∙ a.as_long) (λ m3 r.
-            entered_within premises msp psp u d g.compartment (rounded t psp) (rounded t psp - i.ram_base - 32) q m3 psp 1 0x01000000 a.off a.shallow compartment_small top_small (r.changed.as_long ∙ s.changed.as_long ∙ z1 ∙ a.as_long) fo_frame.aligned (λ m4 z7 c.
-            tables_within i p.rules k Good Allowed true handles.plain good msp (i.ram_base + (rounded t psp - i.ram_base - 32)) u g.compartment (record_at i t w stub g.compartment) z.eighths (rounded t psp) (compartment_at t g.compartment).code (compartment_at t g.compartment).slots q m4 psp k.block 1 (d + 1) (i.ram_base + (rounded t psp - i.ram_base - 32)) z7 a.off (shaped i t w stub) (has_compartment i t w stub g.compartment is_entry.compartment_in) compartment_small z.some most (top_is i t w stub z.eighths (rounded t psp) z.at) (λ q1 y2 v6 v7 e1 off1.
-            closed_within premises msp (i.ram_base + (rounded t psp - i.ram_base - 32)) u q1 m4 MPU_RBAR k.block y2 (rounded t psp) (d + 1) g.compartment v6 v7 off1 (on q1 g.compartment (rounded t psp) is_entry.compartment_in off1.mode (regions_are q1 e1)) (λ q2 e2.
+            (raise_within premises msp psp u o top ret a.off a.at a.frame a.below a.top_is a.return_is return_low (λ v4 m1 w1 z1.
+            save_within premises msp psp u d a.off a.shallow (depth1 m1 w1) (z1 ∙ a.as_long) psp_small (λ y6 y7 m2 s.
+            frame_within premises msp psp u o (rounded t psp - i.ram_base - 32) top (g.entry - 1) (rounded t psp) a.off a.at a.frame a.below fo_frame fo_apart fo_is (top2 m1 m2 w1 s) (wanted2 m1 m2 w1 s) (omega arith) (s.changed.as_long ∙ z1 ∙ a.as_long) (λ m3 r.
+            entered_within premises msp psp u d g.compartment (rounded t psp) (rounded t psp - i.ram_base - 32) a.off a.shallow compartment_small top_small (r.changed.as_long ∙ s.changed.as_long ∙ z1 ∙ a.as_long) fo_frame.aligned (λ m4 z7 c.
+            tables_within i p.rules k Good Allowed true handles.plain good msp (i.ram_base + (rounded t psp - i.ram_base - 32)) u g.compartment (record_at i t w stub g.compartment) z.eighths (rounded t psp) (compartment_at t g.compartment).code (compartment_at t g.compartment).slots a.off (shaped i t w stub) (has_compartment i t w stub g.compartment is_entry.compartment_in) compartment_small z.some most (top_is i t w stub z.eighths (rounded t psp) z.at) (λ q1 y2 v6 v7 e1 off1.
+            closed_within premises msp (i.ram_base + (rounded t psp - i.ram_base - 32)) u off1 (on q1 g.compartment (rounded t psp) is_entry.compartment_in off1.mode (regions_are q1 e1)) (λ q2 e2.
             f _ (record {
               msp_is = refl;
               psp_is = psp_new;
@@ -320,8 +320,8 @@ module _ (premises : HandlerPremises)
         picked_within None v4 v7 e n r5 go = absurd (n (found_is ∙ ap compartment_of e))
         picked_within {ks} {Q} (Some g) v4 v7 e n r5 go =
             at_within (ap (λ x. core msp psp q u m psp k.block k.stack 0xFFFFFFFF v4 x 0 v7) (found_is ∙ ap compartment_of e))
-            (rounded_within premises msp psp u q m k.block 0xFFFFFFFF v4 g.compartment 0 v7 psp_low psp_end (λ c e1 x. r5 c g e1 e x) (λ pos.
-            rest_within (new_top i t p psp psp_low psp_high pos) g v4 v7 (is_target g e).1 (is_target g e).0 (λ c x. go c g e (is_target g e).1 (new_top i t p psp psp_low psp_high pos) x)))
+            (rounded_within premises msp psp u psp_low psp_end (λ c e1 x. r5 c g e1 e x) (λ pos.
+            rest_within (new_top i t p psp psp_low psp_high pos) g (is_target g e).1 (is_target g e).0 (λ c x. go c g e (is_target g e).1 (new_top i t p psp psp_low psp_high pos) x)))
 
         few_steps : 25 + 16 * (site_at t (read 2 ro i.flash)).count + 244 ≤ 1293
         few_steps = let f = (a.sites (read 2 ro i.flash) lt).few in omega (arith, f)
@@ -334,18 +334,18 @@ module _ (premises : HandlerPremises)
             (core msp psp q u m psp k.block k.stack top ret (site_at t (read 2 ro i.flash)).first (site_at t (read 2 ro i.flash)).count v7) Q
         target_on {ks} {Q} v7 r3 r5 go =
             more_within
-            (target_within premises msp psp u (site_at t (read 2 ro i.flash)).first (site_at t (read 2 ro i.flash)).count at_targets o top q m k.block k.stack top ret v7 a.off a.at a.frame a.below a.top_is
+            (target_within premises msp psp u (site_at t (read 2 ro i.flash)).first (site_at t (read 2 ro i.flash)).count at_targets o top a.off a.at a.frame a.below a.top_is
             (site_targets installed (site_at t (read 2 ro i.flash)) (a.sites (read 2 ro i.flash) lt))
             (λ c e n. r3 c e (none_by last refl n))
             (λ v4 w7 n. picked_within last v4 w7 refl n r5 go)) few_steps
 
       -- all of it: 306 steps, and 16 for each target of the site
-      pub enter_within : {ks : List PrivilegedSteps} {Q : Outcome → Type 0} (a5 a6 a7 : ℕ) →
+      pub enter_within : {ks : List PrivilegedSteps} {Q : Outcome → Type 0} {a5 a6 a7 : ℕ} →
           ((c : Core) → c.ram ≡ m → (read 2 ro i.flash < length t.sites → (site_at t (read 2 ro i.flash)).ret ≡ ret → ⊥) → Q (Halted 2 c)) →
           ((c : Core) → c.ram ≡ m → read 2 ro i.flash < length t.sites → (site_at t (read 2 ro i.flash)).ret ≡ ret → last ≡ None → Q (Halted 3 c)) →
           ((c : Core) (g : TargetRecord) → c.ram ≡ m → read 2 ro i.flash < length t.sites → (site_at t (read 2 ro i.flash)).ret ≡ ret → last ≡ Some g → rounded t psp ≡ t.stack.base → Q (Halted 5 c)) →
           ((c : Core) (g : TargetRecord) → read 2 ro i.flash < length t.sites → (site_at t (read 2 ro i.flash)).ret ≡ ret → last ≡ Some g → IsEntry t g.entry g.compartment → NewTop i t p psp → EndsEnter q o d ret g m c → Q (AtReturn c)) →
           W 1330 (enter k) ks (core msp psp q u m psp k.block k.stack top ret a5 a6 a7) Q
-      enter_within {ks} {Q} a5 a6 a7 r2 r3 r5 go =
-          site_within premises msp psp u ret ro q m psp k.block k.stack top a5 a6 a7 a.off a.return_at a.return_even a.return_room r2
+      enter_within {ks} {Q} r2 r3 r5 go =
+          site_within premises msp psp u ret ro a.off a.return_at a.return_even a.return_room r2
           (λ v7 lt re. target_on lt re v7 (λ c e n. r3 c e lt re n) (λ c g e n x. r5 c g e lt re n x) (λ c g n x y z. go c g lt re n x y z))

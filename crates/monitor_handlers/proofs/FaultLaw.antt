@@ -188,7 +188,7 @@ module _ (laws : FaultLaws) (i : Image) (t : Tables) (ready : IsReady i t) where
     Ended y x = Ends installed s (IsGood i) (good_while_off i rules) msp psp u r good_r b o memory psp_is at_fault y x
 
     given : GivesWithin by_mpu i (IsGood i) (HandlerRule i t s) 1730 (memfault (constants t)) [] c0 (Ended outcome)
-    given = memfault_within installed s (IsGood i) (good_while_off i rules) msp psp u r good_r b o memory psp_is at_fault in_handler half (low 0) (low 1) (low 2) (low 3) (low 4) (low 5) (low 6) (low 7) refl refl refl small (cause_by fault)
+    given = memfault_within installed s (IsGood i) (good_while_off i rules) msp psp u r good_r b o memory psp_is at_fault half refl refl refl small (cause_by fault)
 
     -- ---- its code
 

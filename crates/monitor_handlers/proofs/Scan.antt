@@ -191,9 +191,9 @@ module _ (installed : Installed) where
             one_is h k l j = rw (h, k, l, j) refl
 
         -- the whole loop
-        loans_within : {b : ℕ} {s : PrivilegedSteps} {ks : List PrivilegedSteps} {Q : Outcome → Type 0} (a0 a1 a2 : ℕ) → a2 ≡ t.monitor + 160 → ((v0 v1 v2 : ℕ) → W b s ks (core msp psp q u m v0 v1 v2 0 a mask w (hits i t m mask a w count)) Q) →
+        loans_within : {b : ℕ} {s : PrivilegedSteps} {ks : List PrivilegedSteps} {Q : Outcome → Type 0} {a0 a1 a2 : ℕ} → a2 ≡ t.monitor + 160 → ((v0 v1 v2 : ℕ) → W b s ks (core msp psp q u m v0 v1 v2 0 a mask w (hits i t m mask a w count)) Q) →
             W (46 * count + 3 + b) (Repeat 3 32 loan_turn s) ks (core msp psp q u m a0 a1 a2 count a mask w 0) Q
-        loans_within {b} {s} {ks} {Q} a0 a1 a2 e f =
+        loans_within {b} {s} {ks} {Q} {a0} {a1} {a2} e f =
             loop_within Scanning (λ n. 42) (λ n. 46 * n + 3) count (omega arith) (λ n. omega arith) (λ n c r. ap (λ c. low_register c 3) r.is) (λ n c r. turn_within n c r) few
             (record { done = 0; all_of = none; v0 = a0; v1 = a1; v2 = a2; at = no_more; is = refl })
             (λ d r. at_within (r.is ∙ ap (λ x. core msp psp q u m r.v0 r.v1 r.v2 0 a mask w (hits i t m mask a w x)) (all_done r.done r.all_of)) (f r.v0 r.v1 r.v2))
@@ -208,23 +208,23 @@ module _ (installed : Installed) where
             no_more = omega (arith, e)
 
       -- the scan, by a mask in flash: it halts where no loan holds the access
-      pub scan_within : (o top cur field code mask a count : ℕ) (lent : Bool) {b : ℕ} {s : PrivilegedSteps} {ks : List PrivilegedSteps} {Q : Outcome → Type 0} (q : ProtectionState) (m : List ℕ) (a2 a3 a4 a5 w a7 : ℕ) → IsOff true q → psp ≡ i.ram_base + o → InStack i t o top → i.ram_base + (o + 32) ≤ top_of i t thread.ram → read 4 (block + 4) m ≡ top →
+      pub scan_within : (o top cur field code mask a count : ℕ) (lent : Bool) {b : ℕ} {s : PrivilegedSteps} {ks : List PrivilegedSteps} {Q : Outcome → Type 0} {q : ProtectionState} {m : List ℕ} {a2 a3 a4 a5 : ℕ} (w : ℕ) {a7 : ℕ} → IsOff true q → psp ≡ i.ram_base + o → InStack i t o top → i.ram_base + (o + 32) ≤ top_of i t thread.ram → read 4 (block + 4) m ≡ top →
           read 4 (block + 0) m ≡ cur → cur < length t.comps → read 4 (record_at i t (writable installed) stub cur + 4 * field) i.flash ≡ mask → record_at i t (writable installed) stub cur + 4 * field + 4 ≤ length i.flash →
           read 4 (o + 4) m ≡ a → read 4 (block + 12) m ≡ count → count ≤ 32 → hits i t m mask a w count ≡ one_or lent 0 →
           (lent ≡ false → (d : Core) → d.ram ≡ m → Q (Halted code d)) →
           (lent ≡ true → (v1 v2 v7 : ℕ) → W b s ks (core msp psp q u m psp v1 v2 0 a mask w v7) Q) →
           W (1540 + b) (scan k field code s) ks (core msp psp q u m psp k.block a2 a3 a4 a5 w a7) Q
-      scan_within o top cur field code mask a count lent {b} {s} {ks} {Q} q m a2 a3 a4 a5 w a7 off ep io below et ec inside em room ea en few he refuse go =
+      scan_within o top cur field code mask a count lent {b} {s} {ks} {Q} {q} {m} {a3} {a4} w {a7} off ep io below et ec inside em room ea en few he refuse go =
           more_within
           (copy_within (block_load_within premises 0 off refl refl (λ x5 e5.
           at_within (ap (λ x. core msp psp q u m psp k.block w a3 a4 x w a7) (e5 ∙ ec))
-          (record_of_within i p.rules k Good (HandlerRule i t thread) true handles.plain good msp psp u cur (record_at i t (writable installed) stub cur) q m psp k.block w a3 a4 w a7 slots_least slots_most small at_record low_flash (λ v6 v7 e6.
+          (record_of_within i p.rules k Good (HandlerRule i t thread) true handles.plain good msp psp u cur (record_at i t (writable installed) stub cur) slots_least slots_most small at_record low_flash (λ v6 v7 e6.
           load_flash_within p.rules (record_at i t (writable installed) stub cur + 4 * field) {z = Word} (open_while_off q off.control) (at_field v6 e6) flash_al in_flash (handles.plain.flash _ 4 (record_at i t (writable installed) stub cur + 4 * field) room) (λ y5 f5.
           copy_within (frame_load_within premises o top 1 off io below ep refl et (λ x4 e4.
           block_load_within premises 3 off refl refl (λ x3 e3.
           const_within (const_within
           (at_within (ap (λ x. core msp psp q u m psp k.block k.loans_at x3 x y5 w 0) (e4 ∙ ea) ∙ ap (λ x. core msp psp q u m psp k.block k.loans_at x a y5 w 0) (e3 ∙ en) ∙ ap (λ x. core msp psp q u m psp k.block k.loans_at count a x w 0) (f5 ∙ em))
-          (loans_within q m a mask w count off few psp k.block k.loans_at (loans_at_is installed) (λ y0 y1 y2.
+          (loans_within q m a mask w count off few (loans_at_is installed) (λ y0 y1 y2.
           at_within (ap (λ x. core msp psp q u m y0 y1 y2 0 a mask w x) he)
           (const_within (must_within (λ e. refuse (not_chosen lent e) _ refl) (λ e.
           psp_within (on_msp q off.privileged) (go (chosen lent e) y1 y2 _))))))))))))))))) (omega arith)

@@ -42,11 +42,11 @@ module _ (premises : HandlerPremises) where
 
   module _ (msp psp : ℕ) (u : FaultStatus) where
     -- of a frame in the stack
-    pub rounded_within : {b : ℕ} {s : PrivilegedSteps} {ks : List PrivilegedSteps} {Q : Outcome → Type 0} (q : ProtectionState) (m : List ℕ) (a1 a3 a4 a5 a6 a7 : ℕ) → t.stack.base ≤ psp → psp ≤ stack_end t →
+    pub rounded_within : {b : ℕ} {s : PrivilegedSteps} {ks : List PrivilegedSteps} {Q : Outcome → Type 0} {q : ProtectionState} {m : List ℕ} {a1 a3 a4 a5 a6 a7 : ℕ} → t.stack.base ≤ psp → psp ≤ stack_end t →
         ((d : Core) → d.ram ≡ m → rounded_down t psp ≡ t.stack.base → Q (Halted 5 d)) →
         (0 < (psp - t.stack.base) / eighth t → W b s ks (core msp psp q u m psp a1 k.stack (rounded_down t psp) a4 a5 0 a7) Q) →
         W (25 + b) (rounded k s) ks (core msp psp q u m psp a1 k.stack a3 a4 a5 a6 a7) Q
-    rounded_within {b} {s} {ks} {Q} q m a1 a3 a4 a5 a6 a7 lo hi refuse f =
+    rounded_within {b} {s} {ks} {Q} {q} {m} {a1} {a4} {a5} {a7} lo hi refuse f =
         more_within
         (alu_within (λ d ed.
         let de : d ≡ psp - t.stack.base = distance d ed in

@@ -114,9 +114,9 @@ module _ (premises : HandlerPremises) where
 
   module _ (msp psp : ℕ) (u : FaultStatus) where
     -- the return address rises by 2
-    pub raise_within : (o top ret : ℕ) {b : ℕ} {s : PrivilegedSteps} {ks : List PrivilegedSteps} {Q : Outcome → Type 0} (q : ProtectionState) (m : List ℕ) (a1 a2 a3 a4 a5 a6 a7 : ℕ) → IsOff true q → psp ≡ i.ram_base + o → InStack i t o top → i.ram_base + (o + 32) ≤ entry_top → read 4 (here + 4) m ≡ top → read 4 (o + 24) m ≡ ret → ret < 2 ^ 31 →
+    pub raise_within : (o top ret : ℕ) {b : ℕ} {s : PrivilegedSteps} {ks : List PrivilegedSteps} {Q : Outcome → Type 0} {q : ProtectionState} {m : List ℕ} {a1 a2 a3 a4 a5 a6 a7 : ℕ} → IsOff true q → psp ≡ i.ram_base + o → InStack i t o top → i.ram_base + (o + 32) ≤ entry_top → read 4 (here + 4) m ≡ top → read 4 (o + 24) m ≡ ret → ret < 2 ^ 31 →
         ((v4 : ℕ) (m1 : List ℕ) → m1 ≡ write 4 (o + 24) (ret + 2) m → length m1 ≡ length m → W b s ks (core msp psp q u m1 psp a1 a2 a3 v4 a5 2 a7) Q) → W (8 + b) (raise s) ks (core msp psp q u m psp a1 a2 a3 a4 a5 a6 a7) Q
-    raise_within o top ret {b} {s} {ks} {Q} q m a1 a2 a3 a4 a5 a6 a7 off ep io below et er lt f =
+    raise_within o top ret {b} {s} {ks} {Q} {m} off ep io below et er lt f =
         more_within
         (frame_load_within premises o top 6 off io below ep refl et (λ v4 e4.
         const_within (alu_within (λ x ex.
@@ -127,9 +127,9 @@ module _ (premises : HandlerPremises) where
         plus_two v x a b = omega (arith, a, b, lt)
 
     -- PSP, CUR, TOP and MARK into the saved entry numbered DEPTH
-    pub save_within : (d : ℕ) {b : ℕ} {s : PrivilegedSteps} {ks : List PrivilegedSteps} {Q : Outcome → Type 0} (q : ProtectionState) (m : List ℕ) (a2 a3 a4 a5 a6 a7 : ℕ) → IsOff true q → d < 8 → read 4 (here + 8) m ≡ d → length m ≡ i.ram_size → psp < 2 ^ 32 →
+    pub save_within : (d : ℕ) {b : ℕ} {s : PrivilegedSteps} {ks : List PrivilegedSteps} {Q : Outcome → Type 0} {q : ProtectionState} {m : List ℕ} {a2 a3 a4 a5 a6 a7 : ℕ} → IsOff true q → d < 8 → read 4 (here + 8) m ≡ d → length m ≡ i.ram_size → psp < 2 ^ 32 →
         ((v6 v7 : ℕ) (m4 : List ℕ) → Saves i t p psp d m m4 → W b s ks (core msp psp q u m4 psp k.block a2 a3 d a5 v6 v7) Q) → W (19 + b) (save s) ks (core msp psp q u m psp k.block a2 a3 a4 a5 a6 a7) Q
-    save_within d {b} {s} {ks} {Q} q m a2 a3 a4 a5 a6 a7 off few ed zm ps f =
+    save_within d {b} {s} {ks} {Q} {q} {m} {a2} {a3} {a5} off few ed zm ps f =
         more_within
         (block_load_within premises 2 off refl refl (λ v4 e4.
         let de : v4 ≡ d = e4 ∙ ed in
@@ -150,9 +150,9 @@ module _ (premises : HandlerPremises) where
         low28 v e = omega (arith, e, few)
 
     -- one entry more is saved, the callee runs, and PSP is that of its frame, at offset fo
-    pub entered_within : (d current top fo : ℕ) {b : ℕ} {s : PrivilegedSteps} {ks : List PrivilegedSteps} {Q : Outcome → Type 0} (q : ProtectionState) (m : List ℕ) (a0 a2 a7 : ℕ) → IsOff true q → d < 8 → current < 2 ^ 16 → top < 2 ^ 32 → length m ≡ i.ram_size → fo % 4 ≡ 0 →
+    pub entered_within : (d current top fo : ℕ) {b : ℕ} {s : PrivilegedSteps} {ks : List PrivilegedSteps} {Q : Outcome → Type 0} {q : ProtectionState} {m : List ℕ} {a0 a2 a7 : ℕ} → IsOff true q → d < 8 → current < 2 ^ 16 → top < 2 ^ 32 → length m ≡ i.ram_size → fo % 4 ≡ 0 →
         ((m4 : List ℕ) (v7 : ℕ) → Counted i t p d current top m m4 → W b s ks (core msp (i.ram_base + fo) q u m4 a0 k.block a2 top (d + 1) current (i.ram_base + fo) v7) Q) → W (12 + b) (entered s) ks (core msp psp q u m a0 k.block a2 top d current (i.ram_base + fo) a7) Q
-    entered_within d current top fo {b} {s} {ks} {Q} q m a0 a2 a7 off few lc lt zm al f =
+    entered_within d current top fo {b} {s} {ks} {Q} {q} {m} {a0} {a2} off few lc lt zm al f =
         more_within
         (const_within (alu_within (λ x ex.
         let xe : x ≡ d + 1 = plus_one x ex in

@@ -84,11 +84,11 @@ module _ (premises : HandlerPremises) where
 
   module _ (msp psp : ℕ) (u : FaultStatus) where
     -- the return address is that of flash offset ro; halt 2 where the halfword there is no site's number, or the site's return address another
-    pub site_within : (ret ro : ℕ) {b : ℕ} {s : PrivilegedSteps} {ks : List PrivilegedSteps} {Q : Outcome → Type 0} (q : ProtectionState) (m : List ℕ) (a0 a1 a2 a3 a5 a6 a7 : ℕ) → IsOff true q → ret ≡ i.flash_base + ro → ro % 2 ≡ 0 → ro + 2 ≤ length i.flash →
+    pub site_within : (ret ro : ℕ) {b : ℕ} {s : PrivilegedSteps} {ks : List PrivilegedSteps} {Q : Outcome → Type 0} {q : ProtectionState} {m : List ℕ} {a0 a1 a2 a3 a5 a6 a7 : ℕ} → IsOff true q → ret ≡ i.flash_base + ro → ro % 2 ≡ 0 → ro + 2 ≤ length i.flash →
         ((d : Core) → d.ram ≡ m → (read 2 ro i.flash < length t.sites → (site_at t (read 2 ro i.flash)).ret ≡ ret → ⊥) → Q (Halted 2 d)) →
         ((v7 : ℕ) → read 2 ro i.flash < length t.sites → (site_at t (read 2 ro i.flash)).ret ≡ ret → W b s ks (core msp psp q u m a0 a1 a2 a3 ret (site_at t (read 2 ro i.flash)).first (site_at t (read 2 ro i.flash)).count v7) Q) →
         W (37 + b) (site k s) ks (core msp psp q u m a0 a1 a2 a3 ret a5 a6 a7) Q
-    site_within ret ro {b} {s} {ks} {Q} q m a0 a1 a2 a3 a5 a6 a7 off er even room refuse f =
+    site_within ret ro {b} {s} {ks} {Q} {q} {m} {a0} {a1} {a2} {a3} off er even room refuse f =
         more_within
         (half_within ro off er even room (λ v5 e5.
         const_within

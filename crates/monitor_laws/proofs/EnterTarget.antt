@@ -121,11 +121,11 @@ module _ (premises : HandlerPremises) where
             (no_within h (next_within (tail_within v3 (chosen i.flash to e r.done) (sym (picked false v3 (read 4 (to + 8 * r.done + 4) i.flash) (chosen i.flash to e r.done) e3 h))))) (omega arith)
 
     -- the entry is the caller's r12
-    pub target_within : (first count to o top : ℕ) {b : ℕ} {s : PrivilegedSteps} {ks : List PrivilegedSteps} {Q : Outcome → Type 0} (q : ProtectionState) (m : List ℕ) (a1 a2 a3 a4 a7 : ℕ) → IsOff true q → psp ≡ i.ram_base + o → InStack i t o top → i.ram_base + (o + 32) ≤ entry_top → read 4 (t.monitor - i.ram_base + 4) m ≡ top → HasTargets premises.installed first count to →
+    pub target_within : (first count to o top : ℕ) {b : ℕ} {s : PrivilegedSteps} {ks : List PrivilegedSteps} {Q : Outcome → Type 0} {q : ProtectionState} {m : List ℕ} {a1 a2 a3 a4 a7 : ℕ} → IsOff true q → psp ≡ i.ram_base + o → InStack i t o top → i.ram_base + (o + 32) ≤ entry_top → read 4 (t.monitor - i.ram_base + 4) m ≡ top → HasTargets premises.installed first count to →
         ((d : Core) → d.ram ≡ m → chosen i.flash to (read 4 (o + 16) m) count ≡ 0xFFFFFFFF → Q (Halted 3 d)) →
         ((v4 v7 : ℕ) → chosen i.flash to (read 4 (o + 16) m) count ≢ 0xFFFFFFFF → W b s ks (core msp psp q u m psp a1 a2 0xFFFFFFFF v4 (chosen i.flash to (read 4 (o + 16) m) count) 0 v7) Q) →
         W (25 + 16 * count + b) (target k s) ks (core msp psp q u m psp a1 a2 a3 a4 first count a7) Q
-    target_within first count to o top {b} {s} {ks} {Q} q m a1 a2 a3 a4 a7 off ep io below et h refuse f =
+    target_within first count to o top {b} {s} {ks} {Q} {q} {m} {a1} {a2} {a3} off ep io below et h refuse f =
         more_within
         (frame_load_within premises o top 4 off io below ep refl et (λ v4 e4.
         const_within (alu_within (λ x ex.

@@ -56,23 +56,23 @@ module _ (premises : HandlerPremises) where
 
   module _ (msp psp : ℕ) (u : FaultStatus) where
     -- without a call that waits
-    pub leave_last_within : {ks : List PrivilegedSteps} {Q : Outcome → Type 0} (q : ProtectionState) (m : List ℕ) (a0 a2 a3 a4 a5 a6 a7 : ℕ) → IsOff true q → read 4 (block + 8) m ≡ 0 →
+    pub leave_last_within : {ks : List PrivilegedSteps} {Q : Outcome → Type 0} {q : ProtectionState} {m : List ℕ} {a0 a2 a3 a4 a5 a6 a7 : ℕ} → IsOff true q → read 4 (block + 8) m ≡ 0 →
         ((d : Core) → d.ram ≡ m → Q (Halted 0 d)) →
         W 8 (leave k) ks (core msp psp q u m a0 k.block a2 a3 a4 a5 a6 a7) Q
-    leave_last_within {ks} {Q} q m a0 a2 a3 a4 a5 a6 a7 off none refuse =
+    leave_last_within {ks} {Q} {m} off none refuse =
         block_load_within premises 2 off refl refl (λ x ex.
         const_within
         (must_not_within {m = 0} (λ e. refuse _ refl) (λ e. absurd (eq_false _ _ e (ex ∙ none)))))
 
     -- the last call that waits goes on: RAM is as HasLeft tells, PSP is that of its frame, and the unit has the regions of its compartment
     -- and of its TOP
-    pub leave_within : {ks : List PrivilegedSteps} {Q : Outcome → Type 0} (o d back current top mark below : ℕ) (q : ProtectionState) (m : List ℕ) (a2 a3 a4 a5 a6 a7 : ℕ) → psp ≡ i.ram_base + o → IsOff true q → Leaving installed m d back current top mark → InStack i t back top → InStack i t o top → i.ram_base + (o + 32) ≤ entry_top →
+    pub leave_within : {ks : List PrivilegedSteps} {Q : Outcome → Type 0} (o d back current top mark below : ℕ) {q : ProtectionState} {m : List ℕ} {a2 a3 a4 a5 a6 a7 : ℕ} → psp ≡ i.ram_base + o → IsOff true q → Leaving installed m d back current top mark → InStack i t back top → InStack i t o top → i.ram_base + (o + 32) ≤ entry_top →
         (is : IsTop t below top) → current < length t.comps → HasFirstRegions i t q.mpu →
         ((q1 : ProtectionState) → q1 ≡ with_unit q (with_regions current is.0 q.mpu) → q1.mpu.regions ≡ regions_for i t current top → Good (with_unit q1 (record q1.mpu { control = 5 }))) →
         ((q1 : ProtectionState) (new : List ℕ) (b0 b2 b4 b6 b7 : ℕ) → q1 ≡ with_unit q (record (with_regions current is.0 q.mpu) { control = 5 }) → q1.mpu.regions ≡ regions_for i t current top → HasLeft installed o m new d back current top mark →
         Q (AtReturn (core msp (i.ram_base + back) q1 u new b0 k.block b2 top b4 current b6 b7))) →
         W 184 (leave k) ks (core msp psp q u m psp k.block a2 a3 a4 a5 a6 a7) Q
-    leave_within {ks} {Q} o d back current top mark below q m a2 a3 a4 a5 a6 a7 ep off lv ib io under is lt first on f =
+    leave_within {ks} {Q} o d back current top mark below {q} {m} {a2} ep off lv ib io under is lt first on f =
         more_within
         (block_load_within premises 2 off refl refl (λ d4 e4.
         const_within
@@ -101,8 +101,8 @@ module _ (premises : HandlerPremises) where
         let done : HasLeft installed o m m6 d back current top mark = all_left installed o m m5 m6 v2 v3 v6 d back current top mark (five_others installed m m1 m2 m3 m4 m5 n4 v1 v2 v3 v4 five) say lv.as_long ib io w6 x6 in
         write_psp_within (on_msp q off.privileged)
         (at_within (same v5 v2 v3 q6 v6 m6 (whole_word installed v5 back v5_is ib.aligned) say.v3_is say.v2_is)
-        (tables_within i p.rules k Good Allowed true handles.plain good msp (i.ram_base + back) u current (record_at i t w stub current) n top (compartment_at t current).code (compartment_at t current).slots q m6 psp k.block a2 v5 q6 v6 off (shaped i t w stub) (has_compartment i t w stub current lt) few is.2 most (top_is i t w stub n top is.1) (λ q1 y2 y6 y7 e1 off1.
-        closed_within premises msp (i.ram_base + back) u q1 m6 MPU_RBAR k.block y2 top v5 current y6 y7 off1 (on q1 e1 (regions_are q1 e1)) (λ q2 e2.
+        (tables_within i p.rules k Good Allowed true handles.plain good msp (i.ram_base + back) u current (record_at i t w stub current) n top (compartment_at t current).code (compartment_at t current).slots off (shaped i t w stub) (has_compartment i t w stub current lt) few is.2 most (top_is i t w stub n top is.1) (λ q1 y2 y6 y7 e1 off1.
+        closed_within premises msp (i.ram_base + back) u off1 (on q1 e1 (regions_are q1 e1)) (λ q2 e2.
         f q2 m6 MPU_RBAR y2 v5 MPU_CTRL 5 (e2 ∙ ap (λ p. with_unit p (record p.mpu { control = 5 })) e1) (ap (λ p. p.mpu.regions) e2 ∙ regions_are q1 e1) done))))))))))))))))))))))))) (omega arith)
       where
         w : Writable i t

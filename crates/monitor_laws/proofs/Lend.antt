@@ -64,11 +64,11 @@ module _ (premises : HandlerPremises) where
 
   module _ (msp psp : ℕ) (u : FaultStatus) where
     -- the list behind its tests: address, number and LOANS in r4 to r6, the size in r2. The loan is written, and LOANS counts it
-    entry_within : {ks : List PrivilegedSteps} {Q : Outcome → Type 0} (q : ProtectionState) (m : List ℕ) (live address number size a0 a3 a7 : ℕ) → IsOff true q → Good (with_unit q (record q.mpu { control = 5 })) → live < 32 → address + size < 2 ^ 32 →
+    entry_within : {ks : List PrivilegedSteps} {Q : Outcome → Type 0} {q : ProtectionState} {m : List ℕ} (live address number size : ℕ) {a0 a3 a7 : ℕ} → IsOff true q → Good (with_unit q (record q.mpu { control = 5 })) → live < 32 → address + size < 2 ^ 32 →
         ((q1 : ProtectionState) (new : List ℕ) → q1 ≡ with_unit q (record q.mpu { control = 5 }) → new ≡ with_loan block live address (address + size) number m → length new ≡ length m →
         Q (AtReturn (core msp psp q1 u new a0 k.block (address + size) 1 address number MPU_CTRL 5))) →
         W 43 (lend_entry k closed_up) ks (core msp psp q u m a0 k.block size a3 address number live a7) Q
-    entry_within {ks} {Q} q m live address number size a0 a3 a7 off on few fits go =
+    entry_within {ks} {Q} {q} {m} live address number size {a0} off on few fits go =
         more_within
         (alu_within (λ b1 f1. alu_within (λ b2 f2. alu_within (λ b3 f3. alu_within (λ b4 f4. const_within (alu_within (λ b f.
         let at : b ≡ i.ram_base + (block + (160 + 12 * live)) = loan_at b b4 (twelve live b1 b2 b3 b4 f1 f2 f3 f4 few) f in
@@ -81,7 +81,7 @@ module _ (premises : HandlerPremises) where
         let more : c ≡ live + 1 = one_more c f6 in
         block_store_within premises 3 off refl refl (λ m4 g4 h4.
         at_within (ap (λ e. core msp psp q u m4 a0 k.block e 1 address number c b) ends)
-        (closed_within premises msp psp u q m4 a0 k.block (address + size) 1 address number c b off on (λ q1 e1.
+        (closed_within premises msp psp u off on (λ q1 e1.
         go q1 m4 e1 (all_of m1 m2 m3 m4 e c g1 g2 g3 g4 ends more) (h4 ∙ h3 ∙ h2 ∙ h1))))))))))))))))) (omega arith)
       where
         loan_at : (b c : ℕ) → c ≡ 12 * live → b ≡ add c k.loans_at → b ≡ i.ram_base + (block + (160 + 12 * live))
@@ -142,13 +142,13 @@ module _ (premises : HandlerPremises) where
             ∙ ap (λ m. write 4 (block + (160 + 12 * live + 4)) (address + size) m) g1))
 
     -- the loan that is asked for, where it may be made; else halt 6
-    pub lend_within : {ks : List PrivilegedSteps} {Q : Outcome → Type 0} (q : ProtectionState) (o top live address number : ℕ) (m : List ℕ) (a2 a4 a5 a6 a7 : ℕ) → IsOff true q → Good (with_unit q (record q.mpu { control = 5 })) → psp ≡ i.ram_base + o → o % 4 ≡ 0 → FrameIsOpen i t o m → top ≡ read 4 (block + 4) m → top ≤ stack_end t → top ≤ entry_top →
+    pub lend_within : {ks : List PrivilegedSteps} {Q : Outcome → Type 0} {q : ProtectionState} (o top live address number : ℕ) {m : List ℕ} {a2 a4 a5 a6 a7 : ℕ} → IsOff true q → Good (with_unit q (record q.mpu { control = 5 })) → psp ≡ i.ram_base + o → o % 4 ≡ 0 → FrameIsOpen i t o m → top ≡ read 4 (block + 4) m → top ≤ stack_end t → top ≤ entry_top →
         read 4 o m ≡ address → read 4 (o + 4) m ≡ number → read 4 (block + 12) m ≡ live → live ≤ 32 →
         ((d : Core) → d.ram ≡ m → (MayLend t psp top live address number → ⊥) → Q (Halted 6 d)) →
         ((q1 : ProtectionState) (new : List ℕ) → q1 ≡ with_unit q (record q.mpu { control = 5 }) → MayLend t psp top live address number → new ≡ with_loan block live address (address + lend_size t number) number m → length new ≡ length m →
         Q (AtReturn (core msp psp q1 u new psp k.block (address + lend_size t number) 1 address number MPU_CTRL 5))) →
         W 113 (lend k) ks (core msp psp q u m psp k.block a2 top a4 a5 a6 a7) Q
-    lend_within {ks} {Q} q o top live address number m a2 a4 a5 a6 a7 off on ep ao f et en below ea eb el few refuse go =
+    lend_within {ks} {Q} {q} o top live address number {m} {a2} {a7} off on ep ao f et en below ea eb el few refuse go =
         more_within
         (load_within p.rules o (open_while_off q off.control) (frame_0 ep) ao room_0 (handles.stack_load _ o f.low high_0 below_0) (λ x4 e4.
         load_within p.rules (o + 4) (open_while_off q off.control) (frame_4 ep) aligned_4 room_4 (handles.stack_load _ (o + 4) low_4 high_4 below_4) (λ x5 e5.
@@ -173,7 +173,7 @@ module _ (premises : HandlerPremises) where
         alu_within (λ r er.
         must_within (λ c6. refuse _ refl (λ y. not_high r er (leb-true _ _ c5) (le_false _ _ c6) y.high)) (λ c6.
         let high : address + lend_size t number ≤ top = is_high r er (leb-true _ _ c5) (leb-true _ _ c6) in
-        entry_within q m live address number (lend_size t number) psp top r off on room (fits high) (λ q1 new e1 n1 h1.
+        entry_within live address number (lend_size t number) off on room (fits high) (λ q1 new e1 n1 h1.
         go q1 new e1 (record { room = room; number_in = inside; aligned = aligned; low = low; high = high }) n1 h1)))))))))))))))))))))))))) (omega arith)
       where
         stack_high : i.ram_base + o + 32 ≤ i.ram_base + i.ram_size
@@ -267,13 +267,13 @@ module _ (premises : HandlerPremises) where
         fits h = let w = word_fits (block + 4) m in omega (arith, h, w, et)
 
     -- 2: lend
-    pub two_within : {Q : Outcome → Type 0} (q : ProtectionState) (o top live address number : ℕ) (m : List ℕ) (a2 a4 a6 a7 : ℕ) → IsOff true q → Good (with_unit q (record q.mpu { control = 5 })) → psp ≡ i.ram_base + o → o % 4 ≡ 0 → FrameIsOpen i t o m → top ≡ read 4 (block + 4) m → top ≤ stack_end t → top ≤ entry_top →
+    pub two_within : {Q : Outcome → Type 0} {q : ProtectionState} (o top live address number : ℕ) {m : List ℕ} {a2 a4 a6 a7 : ℕ} → IsOff true q → Good (with_unit q (record q.mpu { control = 5 })) → psp ≡ i.ram_base + o → o % 4 ≡ 0 → FrameIsOpen i t o m → top ≡ read 4 (block + 4) m → top ≤ stack_end t → top ≤ entry_top →
         read 4 o m ≡ address → read 4 (o + 4) m ≡ number → read 4 (block + 12) m ≡ live → live ≤ 32 →
         ((d : Core) → d.ram ≡ m → (MayLend t psp top live address number → ⊥) → Q (Halted 6 d)) →
         ((q1 : ProtectionState) (new : List ℕ) → q1 ≡ with_unit q (record q.mpu { control = 5 }) → MayLend t psp top live address number → new ≡ with_loan block live address (address + lend_size t number) number m → length new ≡ length m →
         Q (AtReturn (core msp psp q1 u new psp k.block (address + lend_size t number) 1 address number MPU_CTRL 5))) →
         W 125 (by_number premises) [] (core msp psp q u m psp k.block a2 top a4 2 a6 a7) Q
-    two_within q o top live address number m a2 a4 a6 a7 off on ep ao f et en below ea eb el few refuse go =
+    two_within o top live address number off on ep ao f et en below ea eb el few refuse go =
         more_within
         (const_within (no_within refl (next_within (const_within (yes_within refl
-        (lend_within q o top live address number m a2 a4 2 2 a7 off on ep ao f et en below ea eb el few refuse go)))))) (omega arith)
+        (lend_within o top live address number off on ep ao f et en below ea eb el few refuse go)))))) (omega arith)

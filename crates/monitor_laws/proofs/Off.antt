@@ -101,10 +101,10 @@ module _ (i : Image) (rules : ObeysRules i) (Good : ProtectionState → Type 0) 
 
   module _ (msp psp : ℕ) (u : FaultStatus) where
     -- MPU_CTRL, by r6 and r7
-    pub set_control_within : {n : ℕ} {k : PrivilegedSteps} {ks : List PrivilegedSteps} {Q : Outcome → Type 0} (v : ℕ) (p : ProtectionState) (m : List ℕ) (a0 a1 a2 a3 a4 a5 a6 a7 : ℕ) → p.handler ≡ h → is_unprivileged p ≡ false → v < 8 → Good (with_unit p (record p.mpu { control = v })) →
+    pub set_control_within : {n : ℕ} {k : PrivilegedSteps} {ks : List PrivilegedSteps} {Q : Outcome → Type 0} (v : ℕ) {p : ProtectionState} {m : List ℕ} {a0 a1 a2 a3 a4 a5 a6 a7 : ℕ} → p.handler ≡ h → is_unprivileged p ≡ false → v < 8 → Good (with_unit p (record p.mpu { control = v })) →
         ((q : ProtectionState) → q ≡ with_unit p (record p.mpu { control = v }) → Within n k ks (core msp psp q u m a0 a1 a2 a3 a4 a5 MPU_CTRL v) Q) →
         Within (2 + (2 + (1 + n))) (set_control 6 7 v k) ks (core msp psp p u m a0 a1 a2 a3 a4 a5 a6 a7) Q
-    set_control_within {n} {k} {ks} {Q} v p m a0 a1 a2 a3 a4 a5 a6 a7 mode priv lt ok f =
+    set_control_within {n} {k} {ks} {Q} v {p} {m} {a0} {a1} {a2} {a3} {a4} {a5} mode priv lt ok f =
         let c1 : Core = core msp psp p u m a0 a1 a2 a3 a4 a5 MPU_CTRL v in
         let q : ProtectionState = with_unit p (record p.mpu { control = v }) in
         let small : v % 8 ≡ v = omega arith in

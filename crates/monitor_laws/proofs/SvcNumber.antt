@@ -56,13 +56,13 @@ module _ (premises : HandlerPremises) where
 
   module _ (msp psp : ℕ) (u : FaultStatus) where
     -- the number into r5, the return address in r4: 54 steps
-    pub numbered_within : {b : ℕ} {s : PrivilegedSteps} {Q : Outcome → Type 0} (q : ProtectionState) (o n : ℕ) (m : List ℕ) (a0 a1 a2 a3 a4 a5 a6 a7 : ℕ) → q.handler ≡ true → is_unprivileged q ≡ false → psp ≡ i.ram_base + o → o % 4 ≡ 0 → o < 2 ^ 31 → read 4 (block + 4) m ≤ stack_end t → read 4 (block + 4) m ≤ entry_top → Called i (read 4 (o + 24) m) n →
+    pub numbered_within : {b : ℕ} {s : PrivilegedSteps} {Q : Outcome → Type 0} {q : ProtectionState} (o n : ℕ) {m : List ℕ} {a0 a1 a2 a3 a4 a5 a6 a7 : ℕ} → q.handler ≡ true → is_unprivileged q ≡ false → psp ≡ i.ram_base + o → o % 4 ≡ 0 → o < 2 ^ 31 → read 4 (block + 4) m ≤ stack_end t → read 4 (block + 4) m ≤ entry_top → Called i (read 4 (o + 24) m) n →
         ((d : Core) → d.ram ≡ m → (FrameIsOpen i t o m → ⊥) → Q (Halted 4 d)) →
         ((q1 : ProtectionState) → q1 ≡ with_unit q (record q.mpu { control = 0 }) → IsOff true q1 → FrameIsOpen i t o m → W b s [] (core msp psp q1 u m psp k.block k.stack (read 4 (block + 4) m) (read 4 (o + 24) m) n MPU_CTRL 0) Q) →
         W (54 + b) (numbered s) [] (core msp psp q u m a0 a1 a2 a3 a4 a5 a6 a7) Q
-    numbered_within {b} {s} {Q} q o n m a0 a1 a2 a3 a4 a5 a6 a7 h un ep ao small et below called refuse go =
+    numbered_within {b} {s} {Q} o n {m} h un ep ao small et below called refuse go =
         more_within
-        (opened_within premises msp psp u q o m a0 a1 a2 a3 a4 a5 a6 a7 h un ep ao small et below refuse (λ q1 v4 eq off f.
+        (opened_within premises msp psp u o h un ep ao small et below refuse (λ q1 v4 eq off f.
         load_within p.rules (o + 24) (open_while_off q1 off.control) (frame_at ep) (aligned ao) (room f.high) (handles.stack_load _ (o + 24) (later f.low) (earlier f.high) (at_entry f.high)) (λ x4 e4.
         const_within (alu_within (λ x5 e5.
         load_flash_within p.rules called.offset {z = Byte} (open_while_off q1 off.control) (before x4 x5 e4 e5) (omega arith) (inside called.room) (handles.plain.flash _ 1 called.offset (one called.room)) (λ y5 f5.
@@ -96,16 +96,16 @@ module _ (premises : HandlerPremises) where
         one : called.offset + 2 ≤ length i.flash → called.offset + 1 ≤ length i.flash
         one a = omega (arith, a)
 
-    pub number_within : {b : ℕ} {Q : Outcome → Type 0} (q : ProtectionState) (o n : ℕ) (m : List ℕ) (a0 a1 a2 a3 a4 a5 a6 a7 : ℕ) → q.handler ≡ true → is_unprivileged q ≡ false → psp ≡ i.ram_base + o → o % 4 ≡ 0 → o < 2 ^ 31 → read 4 (block + 4) m ≤ stack_end t → read 4 (block + 4) m ≤ entry_top → Called i (read 4 (o + 24) m) n →
+    pub number_within : {b : ℕ} {Q : Outcome → Type 0} {q : ProtectionState} (o n : ℕ) {m : List ℕ} {a0 a1 a2 a3 a4 a5 a6 a7 : ℕ} → q.handler ≡ true → is_unprivileged q ≡ false → psp ≡ i.ram_base + o → o % 4 ≡ 0 → o < 2 ^ 31 → read 4 (block + 4) m ≤ stack_end t → read 4 (block + 4) m ≤ entry_top → Called i (read 4 (o + 24) m) n →
         ((d : Core) → d.ram ≡ m → (FrameIsOpen i t o m → ⊥) → Q (Halted 4 d)) →
         ((q1 : ProtectionState) → q1 ≡ with_unit q (record q.mpu { control = 0 }) → IsOff true q1 → FrameIsOpen i t o m → W b by_number [] (core msp psp q1 u m psp k.block k.stack (read 4 (block + 4) m) (read 4 (o + 24) m) n MPU_CTRL 0) Q) →
         W (54 + b) (svc k) [] (core msp psp q u m a0 a1 a2 a3 a4 a5 a6 a7) Q
-    number_within q o n m a0 a1 a2 a3 a4 a5 a6 a7 h un ep ao small et below called refuse go =
-        numbered_within q o n m a0 a1 a2 a3 a4 a5 a6 a7 h un ep ao small et below called refuse go
+    number_within o n h un ep ao small et below called refuse go =
+        numbered_within o n h un ep ao small et below called refuse go
 
     -- above 3: halt 1
-    pub above_within : {Q : Outcome → Type 0} (q : ProtectionState) (n : ℕ) (m : List ℕ) (a0 a1 a2 a3 a4 a6 a7 : ℕ) → 3 < n → ((d : Core) → d.ram ≡ m → Q (Halted 1 d)) → W 25 by_number [] (core msp psp q u m a0 a1 a2 a3 a4 n a6 a7) Q
-    above_within q n m a0 a1 a2 a3 a4 a6 a7 h f =
+    pub above_within : {Q : Outcome → Type 0} {q : ProtectionState} (n : ℕ) {m : List ℕ} {a0 a1 a2 a3 a4 a6 a7 : ℕ} → 3 < n → ((d : Core) → d.ram ≡ m → Q (Halted 1 d)) → W 25 by_number [] (core msp psp q u m a0 a1 a2 a3 a4 n a6 a7) Q
+    above_within n h f =
         more_within
         (const_within (no_within (other 3 (omega (arith, h))) (next_within (const_within (no_within (other 2 (omega (arith, h))) (next_within (const_within (no_within (other 0 (omega (arith, h))) (next_within (const_within (no_within (other 1 (omega (arith, h))) (next_within (halt_within (f _ refl)))))))))))))) (omega arith)
       where
@@ -113,12 +113,12 @@ module _ (premises : HandlerPremises) where
         other j lt = search (nat_tests, arith)
 
     -- 3: unlend
-    pub three_within : {Q : Outcome → Type 0} (q : ProtectionState) (m : List ℕ) (a0 a2 a3 a4 a6 a7 : ℕ) → IsOff true q → Good (with_unit q (record q.mpu { control = 5 })) →
+    pub three_within : {Q : Outcome → Type 0} {q : ProtectionState} {m : List ℕ} {a0 a2 a3 a4 a6 a7 : ℕ} → IsOff true q → Good (with_unit q (record q.mpu { control = 5 })) →
         ((d : Core) → d.ram ≡ m → read 4 (block + 12) m ≡ read 4 (block + 16) m → Q (Halted 6 d)) →
         ((q1 : ProtectionState) (new : List ℕ) (v4 : ℕ) → q1 ≡ with_unit q (record q.mpu { control = 5 }) → read 4 (block + 12) m ≢ read 4 (block + 16) m → new ≡ write 4 (block + 12) (subtract (read 4 (block + 12) m) 1) m → length new ≡ length m →
         Q (AtReturn (core msp psp q1 u new a0 k.block a2 a3 v4 1 MPU_CTRL 5))) →
         W 30 by_number [] (core msp psp q u m a0 k.block a2 a3 a4 3 a6 a7) Q
-    three_within q m a0 a2 a3 a4 a6 a7 off on refuse go =
+    three_within off on refuse go =
         more_within
         (const_within (yes_within refl
-        (unlend_within premises msp psp u q m a0 a2 a3 a4 3 3 a7 off on refuse go))) (omega arith)
+        (unlend_within premises msp psp u off on refuse go))) (omega arith)

@@ -31,26 +31,26 @@ module _ (premises : HandlerPremises) where
 
   module _ (msp psp : ℕ) (u : FaultStatus) where
     -- the unit on again, and the exception return
-    pub closed_within : {ks : List PrivilegedSteps} {Q : Outcome → Type 0} (q : ProtectionState) (m : List ℕ) (a0 a1 a2 a3 a4 a5 a6 a7 : ℕ) → IsOff true q → Good (with_unit q (record q.mpu { control = 5 })) →
+    pub closed_within : {ks : List PrivilegedSteps} {Q : Outcome → Type 0} {q : ProtectionState} {m : List ℕ} {a0 a1 a2 a3 a4 a5 a6 a7 : ℕ} → IsOff true q → Good (with_unit q (record q.mpu { control = 5 })) →
         ((q1 : ProtectionState) → q1 ≡ with_unit q (record q.mpu { control = 5 }) → Q (AtReturn (core msp psp q1 u m a0 a1 a2 a3 a4 a5 MPU_CTRL 5))) →
         W 7 closed_up ks (core msp psp q u m a0 a1 a2 a3 a4 a5 a6 a7) Q
-    closed_within q m a0 a1 a2 a3 a4 a5 a6 a7 off on f =
+    closed_within off on f =
         more_within
-        (set_control_within i p.rules Good Allowed true handles.plain good msp psp u 5 q m a0 a1 a2 a3 a4 a5 a6 a7 off.mode off.privileged (omega arith) on (λ q1 e.
+        (set_control_within i p.rules Good Allowed true handles.plain good msp psp u 5 off.mode off.privileged (omega arith) on (λ q1 e.
         return_within (f q1 e))) (omega arith)
 
     -- the last loan ends, where LOANS is not MARK; else halt 6
-    pub unlend_within : {ks : List PrivilegedSteps} {Q : Outcome → Type 0} (q : ProtectionState) (m : List ℕ) (a0 a2 a3 a4 a5 a6 a7 : ℕ) → IsOff true q → Good (with_unit q (record q.mpu { control = 5 })) →
+    pub unlend_within : {ks : List PrivilegedSteps} {Q : Outcome → Type 0} {q : ProtectionState} {m : List ℕ} {a0 a2 a3 a4 a5 a6 a7 : ℕ} → IsOff true q → Good (with_unit q (record q.mpu { control = 5 })) →
         ((d : Core) → d.ram ≡ m → read 4 (block + 12) m ≡ read 4 (block + 16) m → Q (Halted 6 d)) →
         ((q1 : ProtectionState) (new : List ℕ) (v4 : ℕ) → q1 ≡ with_unit q (record q.mpu { control = 5 }) → read 4 (block + 12) m ≢ read 4 (block + 16) m → new ≡ write 4 (block + 12) (subtract (read 4 (block + 12) m) 1) m → length new ≡ length m →
         Q (AtReturn (core msp psp q1 u new a0 k.block a2 a3 v4 1 MPU_CTRL 5))) →
         W 24 unlend ks (core msp psp q u m a0 k.block a2 a3 a4 a5 a6 a7) Q
-    unlend_within {ks} {Q} q m a0 a2 a3 a4 a5 a6 a7 off on refuse go =
+    unlend_within {ks} {Q} {m} off on refuse go =
         more_within
         (block_load_within premises 3 off refl refl (λ x ex.
         block_load_within premises 4 off refl refl (λ y ey.
         must_not_within (λ e. refuse _ refl (sym ex ∙ eqb-true _ _ e ∙ ey)) (λ e.
         const_within (alu_within (λ v ev.
         block_store_within premises 3 off refl refl (λ new en ln.
-        closed_within q new a0 k.block a2 a3 v 1 a6 a7 off on (λ q1 e1.
+        closed_within off on (λ q1 e1.
         go q1 new v e1 (λ z. eq_false _ _ e (ex ∙ z ∙ sym ey)) (en ∙ ap (λ v. write 4 (block + 12) v m) (ev ∙ ap (λ x. subtract x 1) ex)) ln)))))))) (omega arith)
