@@ -127,7 +127,7 @@ module _ (nothing : NothingStops) (equal : holds 0 (compare_flags 0 0) ≡ true)
 
   pub before_within : (a0 a1 a2 a3 a4 a5 a6 a7 : ℕ) → W i t stub s m psp o memory c 68 before [] (at_first i t stub s m psp o memory c a0 a1 a2 a3 a4 a5 a6 a7) Ends
   before_within a0 a1 a2 a3 a4 a5 a6 a7 =
-      numbered_within (premises i t stub s m psp o memory c) msp psp s.status o 0 refl refl c.at c.aligned small (top_word_below i t stub s m psp o memory c) (word_before i t stub s m psp o memory c) (subst (λ r. Called i r 0) (sym return_is) called)
+      numbered_within (premises i t stub s m psp o memory c) o 0 refl refl c.at c.aligned small (top_word_below i t stub s m psp o memory c) (word_before i t stub s m psp o memory c) (subst (λ r. Called i r 0) (sym return_is) called)
       (λ d r shut. inl (halted i t stub s m psp o memory c 4 d r, shut))
       (λ q1 eq off1 f.
       at_within (ap (λ q. core msp psp q s.status memory psp k.block k.stack (read 4 (t.monitor - i.ram_base + 4) memory) (read 4 (o + 24) memory) 0 MPU_CTRL 0) eq ∙ ap₂ (λ x y. core msp psp here s.status memory psp k.block k.stack x y 0 MPU_CTRL 0) (top_word i t stub s m psp o memory c) return_is)

@@ -159,7 +159,7 @@ module _ (installed : Installed) (thread : State) (Good : ProtectionState → Ty
         const_within (cfsr_within off refl
         (system_within CFSR off.privileged refl refl (omega arith) refl refl (handles.plain.system _ CFSR off.mode refl refl) (good_after m1)
         (at_within (same m1)
-        (closed_within premises msp psp (record u { cfsr = 0 }) off (subst Good (sym on) good_on) (λ q1 e1.
+        (closed_within premises off (subst Good (sym on) good_on) (λ q1 e1.
         f _ (record { sp = refl; other_sp = refl; protection = e1 ∙ on; status = refl; ram = w1 ∙ moved_is i psp o x v4 m ep e4 ex }))))))))))) (omega arith)
       where
         same : (m1 : List ℕ) → with_system (core msp psp q u m1 psp a1 a2 a3 CFSR u.cfsr a6 a7) CFSR u.cfsr ≡ core msp psp q (record u { cfsr = 0 }) m1 psp a1 a2 a3 CFSR u.cfsr a6 a7

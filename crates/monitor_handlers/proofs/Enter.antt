@@ -248,12 +248,12 @@ module _ (premises : HandlerPremises)
             (core msp psp q u m psp k.block k.stack (rounded t psp) a4 g.compartment 0 a7) Q
         rest_within g {ks} {Q} is_entry wanted_is f =
             more_within
-            (raise_within premises msp psp u o top ret a.off a.at a.frame a.below a.top_is a.return_is return_low (λ v4 m1 w1 z1.
-            save_within premises msp psp u d a.off a.shallow (depth1 m1 w1) (z1 ∙ a.as_long) psp_small (λ y6 y7 m2 s.
-            frame_within premises msp psp u o (rounded t psp - i.ram_base - 32) top (g.entry - 1) (rounded t psp) a.off a.at a.frame a.below fo_frame fo_apart fo_is (top2 m1 m2 w1 s) (wanted2 m1 m2 w1 s) (omega arith) (s.changed.as_long ∙ z1 ∙ a.as_long) (λ m3 r.
-            entered_within premises msp psp u d g.compartment (rounded t psp) (rounded t psp - i.ram_base - 32) a.off a.shallow compartment_small top_small (r.changed.as_long ∙ s.changed.as_long ∙ z1 ∙ a.as_long) fo_frame.aligned (λ m4 z7 c.
+            (raise_within premises o top ret a.off a.at a.frame a.below a.top_is a.return_is return_low (λ v4 m1 w1 z1.
+            save_within premises d a.off a.shallow (depth1 m1 w1) (z1 ∙ a.as_long) psp_small (λ y6 y7 m2 s.
+            frame_within premises o (rounded t psp - i.ram_base - 32) top (g.entry - 1) (rounded t psp) a.off a.at a.frame a.below fo_frame fo_apart fo_is (top2 m1 m2 w1 s) (wanted2 m1 m2 w1 s) (omega arith) (s.changed.as_long ∙ z1 ∙ a.as_long) (λ m3 r.
+            entered_within premises d g.compartment (rounded t psp) (rounded t psp - i.ram_base - 32) a.off a.shallow compartment_small top_small (r.changed.as_long ∙ s.changed.as_long ∙ z1 ∙ a.as_long) fo_frame.aligned (λ m4 z7 c.
             tables_within i p.rules k Good Allowed true handles.plain good msp (i.ram_base + (rounded t psp - i.ram_base - 32)) u g.compartment (record_at i t w stub g.compartment) z.eighths (rounded t psp) (compartment_at t g.compartment).code (compartment_at t g.compartment).slots a.off (shaped i t w stub) (has_compartment i t w stub g.compartment is_entry.compartment_in) compartment_small z.some most (top_is i t w stub z.eighths (rounded t psp) z.at) (λ q1 y2 v6 v7 e1 off1.
-            closed_within premises msp (i.ram_base + (rounded t psp - i.ram_base - 32)) u off1 (on q1 g.compartment (rounded t psp) is_entry.compartment_in off1.mode (regions_are q1 e1)) (λ q2 e2.
+            closed_within premises off1 (on q1 g.compartment (rounded t psp) is_entry.compartment_in off1.mode (regions_are q1 e1)) (λ q2 e2.
             f _ (record {
               msp_is = refl;
               psp_is = psp_new;
@@ -320,7 +320,7 @@ module _ (premises : HandlerPremises)
         picked_within None v4 v7 e n r5 go = absurd (n (found_is ∙ ap compartment_of e))
         picked_within {ks} {Q} (Some g) v4 v7 e n r5 go =
             at_within (ap (λ x. core msp psp q u m psp k.block k.stack 0xFFFFFFFF v4 x 0 v7) (found_is ∙ ap compartment_of e))
-            (rounded_within premises msp psp u psp_low psp_end (λ c e1 x. r5 c g e1 e x) (λ pos.
+            (rounded_within premises psp_low psp_end (λ c e1 x. r5 c g e1 e x) (λ pos.
             rest_within (new_top i t p psp psp_low psp_high pos) g (is_target g e).1 (is_target g e).0 (λ c x. go c g e (is_target g e).1 (new_top i t p psp psp_low psp_high pos) x)))
 
         few_steps : 25 + 16 * (site_at t (read 2 ro i.flash)).count + 244 ≤ 1293
@@ -347,5 +347,5 @@ module _ (premises : HandlerPremises)
           ((c : Core) (g : TargetRecord) → read 2 ro i.flash < length t.sites → (site_at t (read 2 ro i.flash)).ret ≡ ret → last ≡ Some g → IsEntry t g.entry g.compartment → NewTop i t p psp → EndsEnter q o d ret g m c → Q (AtReturn c)) →
           W 1330 (enter k) ks (core msp psp q u m psp k.block k.stack top ret a5 a6 a7) Q
       enter_within {ks} {Q} r2 r3 r5 go =
-          site_within premises msp psp u ret ro a.off a.return_at a.return_even a.return_room r2
+          site_within premises ret ro a.off a.return_at a.return_even a.return_room r2
           (λ v7 lt re. target_on lt re v7 (λ c e n. r3 c e lt re n) (λ c g e n x. r5 c g e lt re n x) (λ c g n x y z. go c g lt re n x y z))

@@ -404,7 +404,7 @@ module _ (installed : Installed) (thread : State) (Good : ProtectionState → Ty
         W 1730 (memfault k) [] (core msp psp q u m a0 a1 a2 a3 a4 a5 a6 a7) (Ends (fault_outcome i t b psp m u.cfsr half))
     memfault_within half mode un on small cause =
         more_within
-        (opened_within premises msp psp u o mode un ep h.aligned small ends same_top
+        (opened_within premises o mode un ep h.aligned small ends same_top
         (λ d x shut. subst (λ y. Ends y (Halted 4 d)) (sym (shut_outcome half (not_open_is shut))) (d, refl, x))
         (λ q1 v4 eq off f.
         const_within (cfsr_within installed thread Good good off refl (const_within (alu_within (λ x5 e5. tested v4 x5 (ap (λ v. with_unit v (record v.mpu { control = 5 })) eq ∙ on) off f e5 cause)))))) (omega arith)

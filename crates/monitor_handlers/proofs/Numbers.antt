@@ -68,13 +68,13 @@ module _ (i : Image) (t : Tables) (stub : ℕ) (s : State) (m : MonitorBlock) (p
     -- ---- above 3
 
     pub above : (ret n : ℕ) → 3 < n → W 25 numbers [] (at_number ret n) (Q (Halts 1))
-    above ret n h = above_within premises msp psp s.status n h (λ d r. halted i t stub s m psp o memory c 1 d r)
+    above ret n h = above_within premises n h (λ d r. halted i t stub s m psp o memory c 1 d r)
 
     -- ---- 3, unlend
 
     pub three : (ret : ℕ) → W 30 numbers [] (at_number ret 3) (Q (unlend_to i t stub m psp memory m.loans))
     three ret =
-        three_within premises msp psp s.status (is_off i t stub s m psp o memory c) again
+        three_within premises (is_off i t stub s m psp o memory c) again
         (λ d r h. unlend_halts i t stub s m psp o memory c m.loans refl d r h)
         (λ q1 new v4 eq ne w l. unlend_goes i t stub s m psp o memory c m.loans refl f q1 new psp k.block k.stack m.top v4 1 MPU_CTRL 5 eq ne w)
 
@@ -82,7 +82,7 @@ module _ (i : Image) (t : Tables) (stub : ℕ) (s : State) (m : MonitorBlock) (p
 
     pub two : (ret : ℕ) → W 125 numbers [] (at_number ret 2) (Q (lend i t stub m psp memory))
     two ret =
-        two_within premises msp psp s.status o m.top (live i t stub s m psp o memory c) (address i t stub s m psp o memory c) (number i t stub s m psp o memory c)
+        two_within premises o m.top (live i t stub s m psp o memory c) (address i t stub s m psp o memory c) (number i t stub s m psp o memory c)
         (is_off i t stub s m psp o memory c) again c.at c.aligned f (sym (top_word i t stub s m psp o memory c)) (top_below i t stub s m psp o memory c) (top_before i t stub s m psp o memory c) (address_is i t stub s m psp o memory c) (number_is i t stub s m psp o memory c) c.is_block.loan_count_is c.invariant.inv.orderly.few
         (λ d r refused. lend_halts i t stub s m psp o memory c d r refused)
         (λ q1 new eq may w l. lend_goes i t stub s m psp o memory c f q1 new psp k.block (address i t stub s m psp o memory c + lend_size t (number i t stub s m psp o memory c)) 1 (address i t stub s m psp o memory c) (number i t stub s m psp o memory c) MPU_CTRL 5 eq may w)
@@ -93,11 +93,11 @@ module _ (i : Image) (t : Tables) (stub : ℕ) (s : State) (m : MonitorBlock) (p
     one_by ret [] is_svc e =
         more_within
         (const_within (no_within refl (next_within (const_within (no_within refl (next_within (const_within (no_within refl (next_within (const_within (yes_within refl
-        (leave_last_within premises msp psp s.status (is_off i t stub s m psp o memory c) (c.is_block.depth_is ∙ ap (λ l. length l) e) (λ d r. halted i t stub s m psp o memory c 0 d r))))))))))))) (omega arith)
+        (leave_last_within premises (is_off i t stub s m psp o memory c) (c.is_block.depth_is ∙ ap (λ l. length l) e) (λ d r. halted i t stub s m psp o memory c 0 d r))))))))))))) (omega arith)
     one_by ret (e ∷ es) is_svc is =
         more_within
         (const_within (no_within refl (next_within (const_within (no_within refl (next_within (const_within (no_within refl (next_within (const_within (yes_within refl
-        (leave_within premises msp psp s.status o (length es) (e.psp - i.ram_base) e.current e.top e.mark (length es) c.at (is_off i t stub s m psp o memory c)
+        (leave_within premises o (length es) (e.psp - i.ram_base) e.current e.top e.mark (length es) c.at (is_off i t stub s m psp o memory c)
         (leaving i t stub s m psp o memory c e es is) (back_frame i t stub s m psp o memory c e es is) (here_frame i t stub s m psp o memory c e es is f) (frame_before i t stub s m psp o memory c f) (saved_is i t stub s m psp o memory c e es is).is_top (saved_is i t stub s m psp o memory c e es is).current_in
         (first_regions i t stub s m psp o memory c)
         (λ q1 e1 r. good_on i t stub s m psp o memory c unit (with_unit q1 (record q1.mpu { control = 5 })) e.current e.top (saved_is i t stub s m psp o memory c e es is).current_in (ap (λ q. q.handler) e1) refl r)
@@ -156,7 +156,7 @@ module _ (i : Image) (t : Tables) (stub : ℕ) (s : State) (m : MonitorBlock) (p
   pub numbered : (b ret n : ℕ) (a0 a1 a2 a3 a4 a5 a6 a7 : ℕ) → read 4 (o + 24) memory ≡ ret → Called i ret n → (FrameIsOpen i t o memory → W b numbers [] (at_number ret n) (Q (by_number i t stub m psp memory n))) →
       W (54 + b) (svc k) [] (at_first a0 a1 a2 a3 a4 a5 a6 a7) (Q (svc_outcome i t stub m psp memory n))
   numbered b ret n a0 a1 a2 a3 a4 a5 a6 a7 er called go =
-      number_within premises msp psp s.status o n refl refl c.at c.aligned small (top_word_below i t stub s m psp o memory c) (word_before i t stub s m psp o memory c) (subst (λ r. Called i r n) (sym er) called)
+      number_within premises o n refl refl c.at c.aligned small (top_word_below i t stub s m psp o memory c) (word_before i t stub s m psp o memory c) (subst (λ r. Called i r n) (sym er) called)
       (λ d r shut. subst (λ h. Q h (Halted 4 d)) (sym (outcome_shut i t stub s m psp o memory c n shut)) (halted i t stub s m psp o memory c 4 d r))
       (λ q1 eq off1 f.
       at_within (ap (λ q. core msp psp q s.status memory psp k.block k.stack (read 4 (t.monitor - i.ram_base + 4) memory) (read 4 (o + 24) memory) n MPU_CTRL 0) eq ∙ ap₂ (λ x y. core msp psp here s.status memory psp k.block k.stack x y n MPU_CTRL 0) (top_word i t stub s m psp o memory c) er)

@@ -147,7 +147,7 @@ module _ (premises : HandlerPremises) where
           let z : off < 8 = grind (arith, nat_tests, h) in
           ⊎_elim (λ x. inl (omega (arith, x))) (λ x. inr (omega (arith, x, z))) (apart_from_block i t o top p io)
 
-  module _ (msp psp : ℕ) (u : FaultStatus) where
+  module _ {msp psp : ℕ} {u : FaultStatus} where
     -- the new TOP is behind the frame at offset fo; the entry has bit 0 set in the caller's r12
     pub frame_within : (o fo top entry new_top : ℕ) {b : ℕ} {s : PrivilegedSteps} {ks : List PrivilegedSteps} {Q : Outcome → Type 0} {q : ProtectionState} {m : List ℕ} {a1 a2 a4 a5 a6 a7 : ℕ} → IsOff true q → psp ≡ i.ram_base + o → InStack i t o top → i.ram_base + (o + 32) ≤ entry_top → InStack i t fo top → fo + 32 ≤ o → new_top ≡ i.ram_base + (fo + 32) → read 4 (here + 4) m ≡ top → read 4 (o + 16) m ≡ entry + 1 → k.stub_entry < 2 ^ 32 → length m ≡ i.ram_size →
         ((m8 : List ℕ) → Framed k.stub_entry o fo entry m m8 → W b s ks (core msp psp q u m8 psp a1 1 new_top a4 a5 (i.ram_base + fo) 0x01000000) Q) → W (33 + b) (frame k s) ks (core msp psp q u m psp a1 a2 new_top a4 a5 a6 a7) Q

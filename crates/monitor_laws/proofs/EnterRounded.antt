@@ -40,7 +40,7 @@ module _ (premises : HandlerPremises) where
   size_is : StackSize t.stack.size
   size_is = stack_size t.stack.size (writable installed).stack_size
 
-  module _ (msp psp : ℕ) (u : FaultStatus) where
+  module _ {msp psp : ℕ} {u : FaultStatus} where
     -- of a frame in the stack
     pub rounded_within : {b : ℕ} {s : PrivilegedSteps} {ks : List PrivilegedSteps} {Q : Outcome → Type 0} {q : ProtectionState} {m : List ℕ} {a1 a3 a4 a5 a6 a7 : ℕ} → t.stack.base ≤ psp → psp ≤ stack_end t →
         ((d : Core) → d.ram ≡ m → rounded_down t psp ≡ t.stack.base → Q (Halted 5 d)) →

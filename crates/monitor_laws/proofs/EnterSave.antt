@@ -112,7 +112,7 @@ module _ (premises : HandlerPremises) where
   abbrev here : ℕ
   here = t.monitor - i.ram_base
 
-  module _ (msp psp : ℕ) (u : FaultStatus) where
+  module _ {msp psp : ℕ} {u : FaultStatus} where
     -- the return address rises by 2
     pub raise_within : (o top ret : ℕ) {b : ℕ} {s : PrivilegedSteps} {ks : List PrivilegedSteps} {Q : Outcome → Type 0} {q : ProtectionState} {m : List ℕ} {a1 a2 a3 a4 a5 a6 a7 : ℕ} → IsOff true q → psp ≡ i.ram_base + o → InStack i t o top → i.ram_base + (o + 32) ≤ entry_top → read 4 (here + 4) m ≡ top → read 4 (o + 24) m ≡ ret → ret < 2 ^ 31 →
         ((v4 : ℕ) (m1 : List ℕ) → m1 ≡ write 4 (o + 24) (ret + 2) m → length m1 ≡ length m → W b s ks (core msp psp q u m1 psp a1 a2 a3 v4 a5 2 a7) Q) → W (8 + b) (raise s) ks (core msp psp q u m psp a1 a2 a3 a4 a5 a6 a7) Q

@@ -82,7 +82,7 @@ module _ (premises : HandlerPremises) where
   half_within o {b = b} {c = c} q e al hi f =
       load_flash_within rules o {z = Half} (open_while_off c.protection q.control) (omega (arith, e)) (let a = rules.flash_aligned in omega (arith, al, a)) (omega (arith, hi)) (handles.plain.flash c 2 o hi) f
 
-  module _ (msp psp : ℕ) (u : FaultStatus) where
+  module _ {msp psp : ℕ} {u : FaultStatus} where
     -- the return address is that of flash offset ro; halt 2 where the halfword there is no site's number, or the site's return address another
     pub site_within : (ret ro : ℕ) {b : ℕ} {s : PrivilegedSteps} {ks : List PrivilegedSteps} {Q : Outcome → Type 0} {q : ProtectionState} {m : List ℕ} {a0 a1 a2 a3 a5 a6 a7 : ℕ} → IsOff true q → ret ≡ i.flash_base + ro → ro % 2 ≡ 0 → ro + 2 ≤ length i.flash →
         ((d : Core) → d.ram ≡ m → (read 2 ro i.flash < length t.sites → (site_at t (read 2 ro i.flash)).ret ≡ ret → ⊥) → Q (Halted 2 d)) →

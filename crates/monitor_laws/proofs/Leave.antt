@@ -54,7 +54,7 @@ module _ (premises : HandlerPremises) where
   abbrev pub with_regions : (current eighths : ℕ) → Registers → Registers
   with_regions c n u = written ((compartment_at t c).code ∷ (open_stack k n ∷ (compartment_at t c).slots)) u
 
-  module _ (msp psp : ℕ) (u : FaultStatus) where
+  module _ {msp psp : ℕ} {u : FaultStatus} where
     -- without a call that waits
     pub leave_last_within : {ks : List PrivilegedSteps} {Q : Outcome → Type 0} {q : ProtectionState} {m : List ℕ} {a0 a2 a3 a4 a5 a6 a7 : ℕ} → IsOff true q → read 4 (block + 8) m ≡ 0 →
         ((d : Core) → d.ram ≡ m → Q (Halted 0 d)) →
@@ -102,7 +102,7 @@ module _ (premises : HandlerPremises) where
         write_psp_within (on_msp q off.privileged)
         (at_within (same v5 v2 v3 q6 v6 m6 (whole_word installed v5 back v5_is ib.aligned) say.v3_is say.v2_is)
         (tables_within i p.rules k Good Allowed true handles.plain good msp (i.ram_base + back) u current (record_at i t w stub current) n top (compartment_at t current).code (compartment_at t current).slots off (shaped i t w stub) (has_compartment i t w stub current lt) few is.2 most (top_is i t w stub n top is.1) (λ q1 y2 y6 y7 e1 off1.
-        closed_within premises msp (i.ram_base + back) u off1 (on q1 e1 (regions_are q1 e1)) (λ q2 e2.
+        closed_within premises off1 (on q1 e1 (regions_are q1 e1)) (λ q2 e2.
         f q2 m6 MPU_RBAR y2 v5 MPU_CTRL 5 (e2 ∙ ap (λ p. with_unit p (record p.mpu { control = 5 })) e1) (ap (λ p. p.mpu.regions) e2 ∙ regions_are q1 e1) done))))))))))))))))))))))))) (omega arith)
       where
         w : Writable i t

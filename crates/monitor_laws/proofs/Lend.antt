@@ -62,7 +62,7 @@ module _ (premises : HandlerPremises) where
   abbrev block : ℕ
   block = t.monitor - i.ram_base
 
-  module _ (msp psp : ℕ) (u : FaultStatus) where
+  module _ {msp psp : ℕ} {u : FaultStatus} where
     -- the list behind its tests: address, number and LOANS in r4 to r6, the size in r2. The loan is written, and LOANS counts it
     entry_within : {ks : List PrivilegedSteps} {Q : Outcome → Type 0} {q : ProtectionState} {m : List ℕ} (live address number size : ℕ) {a0 a3 a7 : ℕ} → IsOff true q → Good (with_unit q (record q.mpu { control = 5 })) → live < 32 → address + size < 2 ^ 32 →
         ((q1 : ProtectionState) (new : List ℕ) → q1 ≡ with_unit q (record q.mpu { control = 5 }) → new ≡ with_loan block live address (address + size) number m → length new ≡ length m →
@@ -81,7 +81,7 @@ module _ (premises : HandlerPremises) where
         let more : c ≡ live + 1 = one_more c f6 in
         block_store_within premises 3 off refl refl (λ m4 g4 h4.
         at_within (ap (λ e. core msp psp q u m4 a0 k.block e 1 address number c b) ends)
-        (closed_within premises msp psp u off on (λ q1 e1.
+        (closed_within premises off on (λ q1 e1.
         go q1 m4 e1 (all_of m1 m2 m3 m4 e c g1 g2 g3 g4 ends more) (h4 ∙ h3 ∙ h2 ∙ h1))))))))))))))))) (omega arith)
       where
         loan_at : (b c : ℕ) → c ≡ 12 * live → b ≡ add c k.loans_at → b ≡ i.ram_base + (block + (160 + 12 * live))

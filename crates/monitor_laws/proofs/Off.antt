@@ -99,7 +99,7 @@ module _ (i : Image) (rules : ObeysRules i) (Good : ProtectionState → Type 0) 
       system_within a o.privileged e al lt s r (allows.system c a o.mode al s) (good q off1)
       (at_within (ap (λ u. record c { protection = q; status = u }) st) (f q refl off1))
 
-  module _ (msp psp : ℕ) (u : FaultStatus) where
+  module _ {msp psp : ℕ} {u : FaultStatus} where
     -- MPU_CTRL, by r6 and r7
     pub set_control_within : {n : ℕ} {k : PrivilegedSteps} {ks : List PrivilegedSteps} {Q : Outcome → Type 0} (v : ℕ) {p : ProtectionState} {m : List ℕ} {a0 a1 a2 a3 a4 a5 a6 a7 : ℕ} → p.handler ≡ h → is_unprivileged p ≡ false → v < 8 → Good (with_unit p (record p.mpu { control = v })) →
         ((q : ProtectionState) → q ≡ with_unit p (record p.mpu { control = v }) → Within n k ks (core msp psp q u m a0 a1 a2 a3 a4 a5 MPU_CTRL v) Q) →

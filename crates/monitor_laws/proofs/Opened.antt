@@ -109,7 +109,7 @@ module _ (premises : HandlerPremises) where
       let z : off < 136 = grind (arith, nat_tests, h) in
       store_within rules (block + 4 * off) (open_while_off c.protection q.control) (good c.protection q) (block_at off (low_register c b) e) (block_aligned off) (block_room off z) (handles.block Write c (4 * off) q.mode (omega (arith, z))) f
 
-  module _ (msp psp : ℕ) (u : FaultStatus) where
+  module _ {msp psp : ℕ} {u : FaultStatus} where
     -- the three tests with their halts: 46 steps at most
     pub opened_within : {b : ℕ} {s : PrivilegedSteps} {ks : List PrivilegedSteps} {Q : Outcome → Type 0} {q : ProtectionState} (o : ℕ) {m : List ℕ} {a0 a1 a2 a3 a4 a5 a6 a7 : ℕ} → q.handler ≡ true → is_unprivileged q ≡ false → psp ≡ i.ram_base + o → o % 4 ≡ 0 → o < 2 ^ 31 → read 4 (block + 4) m ≤ stack_end t → read 4 (block + 4) m ≤ entry_top →
         ((d : Core) → d.ram ≡ m → (FrameIsOpen i t o m → ⊥) → Q (Halted 4 d)) →
@@ -117,7 +117,7 @@ module _ (premises : HandlerPremises) where
         W (46 + b) (opened k s) ks (core msp psp q u m a0 a1 a2 a3 a4 a5 a6 a7) Q
     opened_within {b} {s} {ks} {Q} o {m} h un ep ao small et below refuse go =
         more_within
-        (set_control_within i rules Good Allowed true handles.plain good msp psp u 0 h un (omega arith) (good _ (record { mode = h; privileged = un; control = refl })) (λ q1 eq.
+        (set_control_within i rules Good Allowed true handles.plain good 0 h un (omega arith) (good _ (record { mode = h; privileged = un; control = refl })) (λ q1 eq.
         let off : IsOff true q1 = rw eq (record { mode = h; privileged = un; control = refl }) in
         psp_within (on_msp q1 off.privileged) (const_within (const_within
         (must_within (λ e1. refuse _ refl (λ x. absurd (not_low (le_false _ _ e1) x.low))) (λ e1.

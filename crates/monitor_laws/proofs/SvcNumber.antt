@@ -54,7 +54,7 @@ module _ (premises : HandlerPremises) where
   abbrev pub numbered : PrivilegedSteps → PrivilegedSteps
   numbered rest = opened k (svc_number rest)
 
-  module _ (msp psp : ℕ) (u : FaultStatus) where
+  module _ {msp psp : ℕ} {u : FaultStatus} where
     -- the number into r5, the return address in r4: 54 steps
     pub numbered_within : {b : ℕ} {s : PrivilegedSteps} {Q : Outcome → Type 0} {q : ProtectionState} (o n : ℕ) {m : List ℕ} {a0 a1 a2 a3 a4 a5 a6 a7 : ℕ} → q.handler ≡ true → is_unprivileged q ≡ false → psp ≡ i.ram_base + o → o % 4 ≡ 0 → o < 2 ^ 31 → read 4 (block + 4) m ≤ stack_end t → read 4 (block + 4) m ≤ entry_top → Called i (read 4 (o + 24) m) n →
         ((d : Core) → d.ram ≡ m → (FrameIsOpen i t o m → ⊥) → Q (Halted 4 d)) →
@@ -62,7 +62,7 @@ module _ (premises : HandlerPremises) where
         W (54 + b) (numbered s) [] (core msp psp q u m a0 a1 a2 a3 a4 a5 a6 a7) Q
     numbered_within {b} {s} {Q} o n {m} h un ep ao small et below called refuse go =
         more_within
-        (opened_within premises msp psp u o h un ep ao small et below refuse (λ q1 v4 eq off f.
+        (opened_within premises o h un ep ao small et below refuse (λ q1 v4 eq off f.
         load_within p.rules (o + 24) (open_while_off q1 off.control) (frame_at ep) (aligned ao) (room f.high) (handles.stack_load _ (o + 24) (later f.low) (earlier f.high) (at_entry f.high)) (λ x4 e4.
         const_within (alu_within (λ x5 e5.
         load_flash_within p.rules called.offset {z = Byte} (open_while_off q1 off.control) (before x4 x5 e4 e5) (omega arith) (inside called.room) (handles.plain.flash _ 1 called.offset (one called.room)) (λ y5 f5.
@@ -121,4 +121,4 @@ module _ (premises : HandlerPremises) where
     three_within off on refuse go =
         more_within
         (const_within (yes_within refl
-        (unlend_within premises msp psp u off on refuse go))) (omega arith)
+        (unlend_within premises off on refuse go))) (omega arith)

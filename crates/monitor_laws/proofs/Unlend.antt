@@ -29,14 +29,14 @@ module _ (premises : HandlerPremises) where
   abbrev block : ℕ
   block = t.monitor - i.ram_base
 
-  module _ (msp psp : ℕ) (u : FaultStatus) where
+  module _ {msp psp : ℕ} {u : FaultStatus} where
     -- the unit on again, and the exception return
     pub closed_within : {ks : List PrivilegedSteps} {Q : Outcome → Type 0} {q : ProtectionState} {m : List ℕ} {a0 a1 a2 a3 a4 a5 a6 a7 : ℕ} → IsOff true q → Good (with_unit q (record q.mpu { control = 5 })) →
         ((q1 : ProtectionState) → q1 ≡ with_unit q (record q.mpu { control = 5 }) → Q (AtReturn (core msp psp q1 u m a0 a1 a2 a3 a4 a5 MPU_CTRL 5))) →
         W 7 closed_up ks (core msp psp q u m a0 a1 a2 a3 a4 a5 a6 a7) Q
     closed_within off on f =
         more_within
-        (set_control_within i p.rules Good Allowed true handles.plain good msp psp u 5 off.mode off.privileged (omega arith) on (λ q1 e.
+        (set_control_within i p.rules Good Allowed true handles.plain good 5 off.mode off.privileged (omega arith) on (λ q1 e.
         return_within (f q1 e))) (omega arith)
 
     -- the last loan ends, where LOANS is not MARK; else halt 6
