@@ -18,7 +18,7 @@ use Rattle.machine_model.specs.declared.state.ProtectionState.{ProtectionState}
 use Rattle.machine_model.specs.declared.state.StopReason.TheVariants.{Bus}
 use Rattle.machine_model.specs.declared.answers.Verdict.TheVariants.{ToBus}
 use Rattle.machine_model.specs.State.{State, Turn, by_mpu, calm, stops}
-use Rattle.machine_model.specs.Instructions.{act}
+use Rattle.machine_model.specs.Instructions.{act, load_into}
 use Rattle.machine_model.specs.System.{in_system}
 use Rattle.machine_model.specs.Tests.{verdict}
 use Rattle.machine_model.specs.Exceptions.{return_on_psp}
@@ -29,7 +29,8 @@ use Rattle.machine_model.specs.Running.{code_size}
 use Rattle.machine_model.proofs.Exec.{code_may_run, stepped}
 use Rattle.machine_model.proofs.Transfers.{loads_halves}
 use Rattle.machine_model.proofs.Turns.{changes_turn}
-use Rattle.monitor_steps.specs.Steps.{PrivilegedSteps, End, Const, Test}
+use Rattle.machine_model.specs.Perform.{perform}
+use Rattle.monitor_steps.specs.Steps.{PrivilegedSteps, End, Const, Test, Halt, ◌▸◌}
 use Rattle.monitor_steps.specs.declared.steps.PrivilegedCond.TheVariants.{Eq}
 use Rattle.monitor_steps.specs.Core.{Core}
 use Rattle.monitor_steps.specs.Effect.{Outcome as PrivilegedOutcome, Went}
@@ -38,20 +39,22 @@ use Rattle.monitor_steps.specs.Runs.{Scratch, registers, at}
 use Rattle.monitor_steps.proofs.Within.{const_within, at_within, no_within, next_within, end_within}
 use Rattle.monitor_model.specs.declared.tables.Tables.{Tables}
 use Rattle.monitor_model.specs.Block.{MonitorBlock}
-use Rattle.monitor_model.specs.Handlers.{Handles, Leads}
+use Rattle.monitor_model.specs.Handlers.{Handles, Leads, LoadFor}
 use Rattle.monitor_model.specs.Outcomes.{Halts, StopsAtBus}
 use Rattle.monitor_model.specs.MonitorLaw.{Shows}
+use Rattle.monitor_model.specs.Halts.{halt_number}
+use Rattle.monitor_model.specs.Reach.{AllBytes, StoreKind, LoadKind}
 use Rattle.monitor_program.specs.Constants.{Constants, constants_with}
 use Rattle.monitor_program.specs.Svc.{enter, leave, lend, unlend, on_number, svc}
 use Rattle.monitor_laws.proofs.Off.{core, IsOff, open_while_off}
 use Rattle.monitor_laws.proofs.Appended.{followed_by, code_followed}
 use Rattle.monitor_laws.proofs.Opened.{FrameIsOpen}
-use Rattle.monitor_laws.proofs.HandlerRule.{HandlerRule}
 use Rattle.monitor_laws.proofs.SvcNumber.{Called, numbered as up_to_number, numbered_within}
 use Rattle.monitor_handlers.proofs.Calling.{Calling, off, is_off, halted, same, top_word, top_word_below, word_before}
-use Rattle.monitor_handlers.proofs.Numbers.{reach, W, Q, at_first}
-use Rattle.monitor_handlers.proofs.Mode.{IsGood, good_while_off}
-use Rattle.monitor_handlers.proofs.Returned.{is_before}
+use Rattle.monitor_handlers.proofs.Numbers.{W, Q, at_first, premises}
+use Rattle.monitor_handlers.proofs.Mode.{good_while_off}
+use Rattle.monitor_handlers.proofs.Returned.{is_before, left_of}
+use Rattle.base_laws.specs.Lists.{Each}
 
 -- a load outside the system's part of the memory map goes to the bus
 to_bus : (q : ProtectionState) (w a : ℕ) → a % w ≡ 0 → a < 0xE0000000 → by_mpu q Read a ≡ true → verdict by_mpu q Read w a ≡ ToBus
@@ -76,9 +79,9 @@ calm_handles : (i : Image) (t : Tables) (s v w : State) → v.protection.handler
 calm_handles i t s v w h e = record {
   handler = h;
   quiet = ap (λ (u : Turn). u.event) e;
-  stores = subst (λ l. Rattle.base_laws.specs.Lists.Each (Rattle.monitor_model.specs.Reach.AllBytes (Rattle.monitor_model.specs.Reach.StoreKind i t v)) l) (sym (ap (λ (u : Turn). u.stores) e)) tt;
-  loads = λ closed. subst (λ l. Rattle.base_laws.specs.Lists.Each (Rattle.monitor_model.specs.Reach.AllBytes (Rattle.monitor_model.specs.Reach.LoadKind i t v)) l) (sym (ap (λ (u : Turn). u.loads) e)) tt;
-  loads_for = λ closed. subst (λ l. Rattle.base_laws.specs.Lists.Each (Rattle.monitor_model.specs.Reach.AllBytes (Rattle.monitor_model.specs.Handlers.LoadFor i t s)) l) (sym (ap (λ (u : Turn). u.loads) e)) tt;
+  stores = subst (λ l. Each (AllBytes (StoreKind i t v)) l) (sym (ap (λ (u : Turn). u.stores) e)) tt;
+  loads = λ closed. subst (λ l. Each (AllBytes (LoadKind i t v)) l) (sym (ap (λ (u : Turn). u.loads) e)) tt;
+  loads_for = λ closed. subst (λ l. Each (AllBytes (LoadFor i t s)) l) (sym (ap (λ (u : Turn). u.loads) e)) tt;
 }
 
 module _ (nothing : NothingStops) (equal : holds 0 (compare_flags 0 0) ≡ true) (i : Image) (t : Tables) (stub : ℕ) (s : State) (m : MonitorBlock) (psp o : ℕ) (memory : List ℕ) (c : Calling i t s m psp o memory) (ret : ℕ) (return_is : read 4 (o + 24) memory ≡ ret) (called : Called i ret 0) (even : ret % 2 ≡ 0) (low_ret : ret < 0x20000000) (none : location i ret ≡ Nowhere) where
@@ -97,10 +100,10 @@ module _ (nothing : NothingStops) (equal : holds 0 (compare_flags 0 0) ≡ true)
   -- ---- the list in two parts
 
   abbrev pub before : PrivilegedSteps
-  before = up_to_number i t c.placed c.tables stub (IsGood i) (HandlerRule i t s) (reach i t stub s m psp o memory c) (good_while_off i c.placed.rules) (on_number 3 unlend (on_number 2 (lend k) (Const 6 0 End)))
+  before = up_to_number (premises i t stub s m psp o memory c) (on_number 3 unlend ▸ on_number 2 (lend k) ▸ Const 6 0 ▸ End)
 
   abbrev pub others : PrivilegedSteps
-  others = on_number 1 (leave k) (Rattle.monitor_steps.specs.Steps.Halt 1 End)
+  others = on_number 1 (leave k) ▸ Halt halt_number ▸ End
 
   abbrev pub the_test : PrivilegedSteps
   the_test = Test Eq 5 6 (enter k) End others
@@ -124,7 +127,7 @@ module _ (nothing : NothingStops) (equal : holds 0 (compare_flags 0 0) ≡ true)
 
   pub before_within : (a0 a1 a2 a3 a4 a5 a6 a7 : ℕ) → W i t stub s m psp o memory c 68 before [] (at_first i t stub s m psp o memory c a0 a1 a2 a3 a4 a5 a6 a7) Ends
   before_within a0 a1 a2 a3 a4 a5 a6 a7 =
-      numbered_within i t c.placed c.tables stub (IsGood i) (HandlerRule i t s) (reach i t stub s m psp o memory c) (good_while_off i c.placed.rules) msp psp s.status (record s.protection { handler = true }) o 0 memory a0 a1 a2 a3 a4 a5 a6 a7 refl refl c.at c.aligned small (top_word_below i t stub s m psp o memory c) (word_before i t stub s m psp o memory c) (subst (λ r. Called i r 0) (sym return_is) called)
+      numbered_within (premises i t stub s m psp o memory c) o 0 refl refl c.at c.aligned small (top_word_below i t stub s m psp o memory c) (word_before i t stub s m psp o memory c) (subst (λ r. Called i r 0) (sym return_is) called)
       (λ d r shut. inl (halted i t stub s m psp o memory c 4 d r, shut))
       (λ q1 eq off1 f.
       at_within (ap (λ q. core msp psp q s.status memory psp k.block k.stack (read 4 (t.monitor - i.ram_base + 4) memory) (read 4 (o + 24) memory) 0 MPU_CTRL 0) eq ∙ ap₂ (λ x y. core msp psp here s.status memory psp k.block k.stack x y 0 MPU_CTRL 0) (top_word i t stub s m psp o memory c) return_is)
@@ -168,20 +171,20 @@ module _ (nothing : NothingStops) (equal : holds 0 (compare_flags 0 0) ≡ true)
     bus : verdict by_mpu here Read 2 ret ≡ ToBus
     bus = to_bus here 2 ret even (omega (arith, low_ret)) ((open_while_off here here_off.control).reads ret)
 
-    asks : act (TransferImmediate 5 0 4 5) (pc + 2 + 2 + 4 + size (TransferImmediate 5 0 4 5)) (registers return_on_psp queues (pc + 2 + 2 + 4) y at_test) ≡ Rattle.machine_model.specs.Instructions.load_into 5 2 ret (pc + 2 + 2 + 4 + 2) (registers return_on_psp queues (pc + 2 + 2 + 4) y at_test)
+    asks : act (TransferImmediate 5 0 4 5) (pc + 2 + 2 + 4 + size (TransferImmediate 5 0 4 5)) (registers return_on_psp queues (pc + 2 + 2 + 4) y at_test) ≡ load_into 5 2 ret (pc + 2 + 2 + 4 + 2) (registers return_on_psp queues (pc + 2 + 2 + 4) y at_test)
     unfolding act
     asks =
         loads_halves 0 ret 5 (pc + 2 + 2 + 4 + 2) (registers return_on_psp queues (pc + 2 + 2 + 4) y at_test)
-        ∙ (let z : word (ret + 2 * 0) ≡ ret = omega (arith, low_ret) in ap (λ a. Rattle.machine_model.specs.Instructions.load_into 5 2 a (pc + 2 + 2 + 4 + 2) (registers return_on_psp queues (pc + 2 + 2 + 4) y at_test)) z)
+        ∙ (let z : word (ret + 2 * 0) ≡ ret = omega (arith, low_ret) in ap (λ a. load_into 5 2 a (pc + 2 + 2 + 4 + 2) (registers return_on_psp queues (pc + 2 + 2 + 4) y at_test)) z)
 
     third_turn : turn by_mpu i v2 ≡ stops Bus v2
     third_turn =
         stepped by_mpu i (registers return_on_psp queues (pc + 2 + 2 + 4) y at_test) here s.status memory queues (TransferImmediate 5 0 4 5) stands.1.1.1.0
-        ∙ ap (λ a. Rattle.machine_model.specs.Perform.perform by_mpu i a v2) asks
+        ∙ ap (λ a. perform by_mpu i a v2) asks
         ∙ (nothing by_mpu i v2 ret none).loads 2 _ bus
 
     ended_there : Shows i t StopsAtBus s m memory v3
-    ended_there = (pc + 2 + 2 + 4, record { ended = record { ending = refl; handler = refl }; is_left = Rattle.monitor_handlers.proofs.Returned.left_of i t m m memory v3 (same i t stub s m psp o memory c) })
+    ended_there = (pc + 2 + 2 + 4, record { ended = record { ending = refl; handler = refl }; is_left = left_of i t m m memory v3 (same i t stub s m psp o memory c) })
 
     pub stopped : (most : ℕ) (from : State) → Leads i t s most from (λ u. u ≡ v0) → Leads i t s (most + 3) from (Shows i t StopsAtBus s m memory)
     stopped most from l =

@@ -19,7 +19,7 @@ use Rattle.monitor_model.specs.Area.{HasTables}
 use Rattle.monitor_model.specs.Regions.{regions_for}
 use Rattle.monitor_model.specs.Placed.{Placed}
 use Rattle.monitor_model.specs.Block.{Loan, MonitorBlock, lent, unlent}
-use Rattle.monitor_model.specs.BlockWords.{block_word, top as top_of, IsBlock}
+use Rattle.monitor_model.specs.BlockWords.{block_word, top as top_of, IsBlock, HasLoans}
 use Rattle.monitor_model.specs.Invariant.{IsTop, InvariantHolds}
 use Rattle.monitor_model.specs.Handlers.{LoadFor, ForStack}
 use Rattle.monitor_model.specs.Outcomes.{Outcome, Halts, Resumes, stacked, is_open, status_place}
@@ -35,6 +35,7 @@ use Rattle.monitor_handlers.proofs.Blocks.{saved_stay, loans_stay}
 use Rattle.monitor_handlers.proofs.Returned.{LeavesRam, Resuming, Answers}
 use Rattle.monitor_handlers.proofs.Mode.{IsGood}
 use Rattle.monitor_handlers.proofs.Targets.{SiteFits}
+use Rattle.monitor_laws.proofs.Placement.{Installed}
 
 -- what is known behind the entry, from a thread's state s with block m: the frame at psp, and RAM
 pub record Calling (i : Image) (t : Tables) (s : State) (m : MonitorBlock) (psp o : ℕ) (memory : List ℕ) : Type 0 where
@@ -48,6 +49,10 @@ pub record Calling (i : Image) (t : Tables) (s : State) (m : MonitorBlock) (psp 
   pub fits : o + 32 ≤ i.ram_size
   pub is_block : IsBlock i t memory m
   pub as_long : length memory ≡ i.ram_size
+
+-- the monitor in the image of a call
+abbrev pub installed_at : {i : Image} {t : Tables} {s : State} {m : MonitorBlock} {psp o : ℕ} {memory : List ℕ} → Calling i t s m psp o memory → (stub : ℕ) → Installed
+installed_at {i} {t} c stub = record { image = i; tables = t; placed = c.placed; has_tables = c.tables; stub = stub }
 
 module _ (i : Image) (t : Tables) (stub : ℕ) (s : State) (m : MonitorBlock) (psp o : ℕ) (memory : List ℕ) (c : Calling i t s m psp o memory) where
   abbrev b : ℕ
@@ -198,7 +203,7 @@ module _ (i : Image) (t : Tables) (stub : ℕ) (s : State) (m : MonitorBlock) (p
       loan_count_is = ap (λ n. read 4 (b + 12) n) w ∙ word_same (b + 12) (length ls) memory (let r = block_room in omega (arith, r)) (let f = few in omega (arith, f));
       mark_is = at 16 (inr (omega arith)) ∙ c.is_block.mark_is;
       has_saved = saved_stay i t memory new m.saved (λ x lo hi. at x (inr (omega (arith, lo)))) c.is_block.has_saved;
-      has_loans = loans_stay i t memory new ls (λ x lo hi. at x (inr (omega (arith, lo)))) (subst (λ z. Rattle.monitor_model.specs.BlockWords.HasLoans i t memory z) e c.is_block.has_loans).1;
+      has_loans = loans_stay i t memory new ls (λ x lo hi. at x (inr (omega (arith, lo)))) (subst (λ z. HasLoans i t memory z) e c.is_block.has_loans).1;
     };
     is_memory = record { reads = λ w a h. ch.reads w a (⊎_elim (λ x. inl (omega (arith, x))) (λ x. inr (omega (arith, x))) h); as_long = ch.as_long };
     words_stay = λ z. absurd (let y : ls ≡ l ∷ ls = ap (λ (z : MonitorBlock). z.loans) z ∙ e in let n : length ls ≡ suc (length ls) = ap (λ l. length l) y in omega (arith, n));

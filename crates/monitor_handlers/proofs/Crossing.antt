@@ -17,7 +17,7 @@ use Rattle.monitor_steps.specs.Effect.{Outcome as PrivilegedOutcome, Halted, AtR
 use Rattle.monitor_steps.proofs.Gives.{word_same, word_fits}
 use Rattle.monitor_model.specs.declared.tables.TargetRecord.{TargetRecord}
 use Rattle.monitor_model.specs.declared.tables.Tables.{Tables}
-use Rattle.monitor_model.specs.Records.{compartment_at, nobody, number_of_slots, site_at, targets_of, last_with_entry, stack_end, rounded}
+use Rattle.monitor_model.specs.Records.{compartment_at, nobody, number_of_slots, site_at, targets_of, last_with_entry, stack_end, rounded, eighth}
 use Rattle.monitor_model.specs.Regions.{stack_region, regions_for}
 use Rattle.monitor_model.specs.Placed.{IsCompartment, IsEntry}
 use Rattle.monitor_model.specs.Block.{Saved, MonitorBlock, entered, left}
@@ -38,7 +38,7 @@ use Rattle.monitor_handlers.proofs.Frames.{stacked_is}
 use Rattle.monitor_handlers.proofs.Blocks.{saved_stay, loans_stay, loans_dropped}
 use Rattle.monitor_handlers.proofs.Returned.{LeavesRam, Answers}
 use Rattle.monitor_handlers.proofs.Enter.{HasEntered, NewTop}
-use Rattle.monitor_handlers.proofs.Calling.{Calling, off, halted, frame, top_before}
+use Rattle.monitor_handlers.proofs.Calling.{Calling, off, halted, frame, top_before, installed_at}
 use Rattle.base_laws.proofs.Lists.{each_at}
 
 module _ (i : Image) (t : Tables) (stub : ℕ) (s : State) (m : MonitorBlock) (psp o : ℕ) (memory : List ℕ) (c : Calling i t s m psp o memory) where
@@ -94,7 +94,7 @@ module _ (i : Image) (t : Tables) (stub : ℕ) (s : State) (m : MonitorBlock) (p
     saved_end =
         let z = saved_is.is_top in
         let f : z.0 ≤ 8 = (let x = z.3 in omega (arith, x)) in
-        let most : z.0 * Rattle.monitor_model.specs.Records.eighth t ≤ 8 * Rattle.monitor_model.specs.Records.eighth t = grind (arith, f) in
+        let most : z.0 * eighth t ≤ 8 * eighth t = grind (arith, f) in
         let at = z.1 in
         omega (arith, most, at)
 
@@ -114,7 +114,7 @@ module _ (i : Image) (t : Tables) (stub : ℕ) (s : State) (m : MonitorBlock) (p
       ends = saved_end;
     }
 
-    pub leaving : Leaving i t c.placed c.tables stub memory (length es) back e.current e.top e.mark
+    pub leaving : Leaving (installed_at c stub) memory (length es) back e.current e.top e.mark
     leaving = record {
       depth = c.is_block.depth_is ∙ count_is;
       few = few;
@@ -137,7 +137,7 @@ module _ (i : Image) (t : Tables) (stub : ℕ) (s : State) (m : MonitorBlock) (p
     result : word i t stub m psp memory 0 ≡ read 4 o memory
     result = stacked_is i psp o 0 memory c.at (omega arith) ∙ (let z : o + 4 * 0 ≡ o = omega arith in ap (λ o. read 4 o memory) z)
 
-    left_ram : (new : List ℕ) → HasLeft i t c.placed c.tables stub o memory new (length es) back e.current e.top e.mark → LeavesRam i t m (left m e es) after new
+    left_ram : (new : List ℕ) → HasLeft (installed_at c stub) o memory new (length es) back e.current e.top e.mark → LeavesRam i t m (left m e es) after new
     left_ram new h = record {
       is_block = record {
         current_is = h.current_is;
@@ -193,7 +193,7 @@ module _ (i : Image) (t : Tables) (stub : ℕ) (s : State) (m : MonitorBlock) (p
             (let z : depth i t s.ram - 1 ≡ length es = omega (arith, deep) in ap (λ k. saved_psp i t s.ram k) z)
             ∙ (subst (λ l. HasSaved i t s.ram l) is c.invariant.inv.is_block.has_saved).0.psp
 
-    pub leave_goes : IsSvc i t 1 s → (q : ProtectionState) (new : List ℕ) (b0 b1 b2 b3 b4 b5 b6 b7 : ℕ) (u : Registers) → q ≡ with_unit (off i t stub s m psp o memory c) (record u { control = 5 }) → q.mpu.regions ≡ regions_for i t e.current e.top → HasLeft i t c.placed c.tables stub o memory new (length es) back e.current e.top e.mark →
+    pub leave_goes : IsSvc i t 1 s → (q : ProtectionState) (new : List ℕ) (b0 b1 b2 b3 b4 b5 b6 b7 : ℕ) (u : Registers) → q ≡ with_unit (off i t stub s m psp o memory c) (record u { control = 5 }) → q.mpu.regions ≡ regions_for i t e.current e.top → HasLeft (installed_at c stub) o memory new (length es) back e.current e.top e.mark →
         Q (leave_to i t stub m psp memory (e ∷ es)) (AtReturn (core (t.monitor + block_size) (i.ram_base + back) q s.status new b0 b1 b2 b3 b4 b5 b6 b7))
     leave_goes is_svc q new b0 b1 b2 b3 b4 b5 b6 b7 u eq er h = (
       core (t.monitor + block_size) (i.ram_base + back) q s.status new b0 b1 b2 b3 b4 b5 b6 b7,

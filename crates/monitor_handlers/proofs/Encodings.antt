@@ -3,13 +3,14 @@ use Rattle.std.proofs.Common.{◌≡◌, ℕ, ◌+◌, ◌^◌, ◌<◌, ◌≤�
 use Rattle.std.proofs.lemmas.Bool.Decides.{nat_tests}
 use Rattle.machine_thumb.specs.Bytes.{EachInTable}
 use Rattle.base_words.specs.declared.memory.Width.TheVariants.{Word}
-use Rattle.monitor_steps.specs.Steps.{PrivilegedSteps, End, Load, Store, Halt, names_low}
+use Rattle.monitor_steps.specs.Steps.{PrivilegedSteps, End, Load, Store, Halt, names_low, ◌▸◌}
 use Rattle.monitor_steps.specs.Code.{code_length, code}
 use Rattle.monitor_model.specs.declared.tables.Tables.{Tables}
 use Rattle.monitor_program.specs.Constants.{Constants, constants_with}
 use Rattle.monitor_program.specs.Opening.{bits_of}
-use Rattle.monitor_model.specs.Offsets.{record_mask, record_reads}
-use Rattle.monitor_program.specs.MemFault.{loan_turn, scan, stored, loaded, finished, widths, stores, loads, memfault}
+use Rattle.monitor_model.specs.Offsets.{record_mask, record_reads, frame_r0}
+use Rattle.monitor_model.specs.Halts.{halt_store, halt_fault, halt_load}
+use Rattle.monitor_program.specs.MemFault.{loan_turn, scan, stored, loaded, finished, widths, stores, loads, memfault, lent_load}
 use Rattle.monitor_handlers.proofs.Encodable.{Words, words_fit, times_words}
 use Rattle.monitor_laws.proofs.Encoded.{fits_fields, times_fields, in_table}
 use Rattle.monitor_laws.proofs.Appended.{times_low}
@@ -19,10 +20,10 @@ use Rattle.monitor_laws.proofs.Appended.{times_low}
 -- ---- the handler
 
 abbrev store_end : PrivilegedSteps
-store_end = Load Word 5 0 0 (stored finished)
+store_end = Load Word 5 0 frame_r0 ▸ stored ▸ finished
 
 abbrev load_end : PrivilegedSteps
-load_end = loaded (Store Word 5 0 0 finished)
+load_end = loaded ▸ Store Word 5 0 frame_r0 ▸ finished
 
 finished_words : Words finished
 finished_words = (omega arith, (omega arith, (omega arith, (omega arith, tt))))
@@ -47,11 +48,11 @@ module _ (stub : ℕ) (t : Tables) where
   widths_words a b d other k x y z o w = (x, ((omega arith, tt), (y, ((omega arith, tt), (z, ((omega arith, tt), o, tt)), tt)), w))
 
   stores_words : Words (stores c)
-  stores_words = scan_words (record_mask c.slots) 7 store_end store_words
+  stores_words = scan_words (record_mask c.slots) halt_store store_end store_words
 
   loads_words : (closed : Bool) → Words (loads c closed)
   loads_words false = tt
-  loads_words true = widths_words 0x6808 0x7808 0x8808 (Halt 8 End) (scan c (record_reads c.slots) 9 load_end) (omega arith) (omega arith) (omega arith) tt (scan_words (record_reads c.slots) 9 load_end load_words)
+  loads_words true = widths_words 0x6808 0x7808 0x8808 (Halt halt_fault End) (lent_load c) (omega arith) (omega arith) (omega arith) tt (scan_words (record_reads c.slots) halt_load load_end load_words)
 
   memfault_words : Words (memfault c)
   memfault_words = (omega arith, (omega arith, (omega arith, (omega arith, (tt, tt, (tt, tt, (omega arith, (tt, tt, (omega arith, (omega arith, (tt, tt, (omega arith, (omega arith, (tt, tt, widths_words 0x6008 0x7008 0x8008 (loads c t.closed) (stores c) (omega arith) (omega arith) (omega arith) (loads_words t.closed) stores_words))))))))))))))
@@ -62,11 +63,11 @@ module _ (stub : ℕ) (t : Tables) where
   scan_low field code k e = times_low (bits_of 4 (c.slots + 2)) _ ∙ e
 
   stores_low : names_low (stores c) ≡ true
-  stores_low = scan_low (record_mask c.slots) 7 store_end refl
+  stores_low = scan_low (record_mask c.slots) halt_store store_end refl
 
   loads_low : (closed : Bool) → names_low (loads c closed) ≡ true
   loads_low false = refl
-  loads_low true = let e = scan_low (record_reads c.slots) 9 load_end refl in rw e refl
+  loads_low true = let e = scan_low (record_reads c.slots) halt_load load_end refl in rw e refl
 
   pub memfault_low : names_low (memfault c) ≡ true
   memfault_low = let e = stores_low in let f = loads_low t.closed in rw (e, f) refl
@@ -78,11 +79,11 @@ module _ (stub : ℕ) (t : Tables) where
   small_field n h = search (nat_tests, arith)
 
   stores_fields : c.slots ≤ 12 → fits_fields (stores c) ≡ true
-  stores_fields h = scan_fields (record_mask c.slots) 7 store_end (small_field (record_mask c.slots) (omega (arith, h))) refl refl
+  stores_fields h = scan_fields (record_mask c.slots) halt_store store_end (small_field (record_mask c.slots) (omega (arith, h))) refl refl
 
   loads_fields : c.slots ≤ 12 → (closed : Bool) → fits_fields (loads c closed) ≡ true
   loads_fields h false = refl
-  loads_fields h true = let e = scan_fields (record_reads c.slots) 9 load_end (small_field (record_reads c.slots) (omega (arith, h))) refl refl in rw e refl
+  loads_fields h true = let e = scan_fields (record_reads c.slots) halt_load load_end (small_field (record_reads c.slots) (omega (arith, h))) refl refl in rw e refl
 
   memfault_fields : c.slots ≤ 12 → fits_fields (memfault c) ≡ true
   memfault_fields h = let e = stores_fields h in let f = loads_fields h t.closed in rw (e, f) refl

@@ -1,31 +1,30 @@
 -- All of enter: the site, the target, the new TOP, the caller's words, the callee's frame, and the regions of its compartment.
 use Rattle.std.proofs.Common.{◌≡◌, ◌≢◌, ℕ, ◌+◌, ◌-◌, ◌*◌, ◌/◌, ◌%◌, ◌^◌, ◌<◌, ◌≤◌, ◌⊎◌, inl, inr, ⊎_elim, true, List, ◌∷◌, length, Option, Some, None, refl, sym, ap, ◌∙◌, subst, arith}
 use Rattle.std.proofs.lemmas.Bool.{cases_lt}
-use Rattle.std.proofs.Math.Nat.{div-mul-le_self}
+use Rattle.std.proofs.Math.Nat.{div-mul-le_self, mod_self}
 use Rattle.base_words.specs.Bytes.{read, write}
 use Rattle.machine_protection.specs.declared.TheConstants.{MPU_RBAR}
+use Rattle.machine_protection.specs.Configured.{written}
 use Rattle.machine_devices.specs.declared.image.Image.{Image}
 use Rattle.machine_model.specs.declared.state.ProtectionState.{ProtectionState}
 use Rattle.machine_model.specs.declared.state.FaultStatus.{FaultStatus}
 use Rattle.machine_model.specs.State.{by_mpu}
-use Rattle.monitor_steps.specs.Steps.{PrivilegedSteps}
+use Rattle.monitor_steps.specs.Steps.{PrivilegedSteps, ◌▸◌}
 use Rattle.monitor_steps.specs.Core.{Core}
 use Rattle.monitor_steps.specs.Effect.{Outcome, Halted, AtReturn}
-use Rattle.monitor_steps.specs.Safe.{Rule}
 use Rattle.monitor_steps.proofs.Within.{GivesWithin, at_within, more_within}
 use Rattle.monitor_model.specs.declared.tables.TargetRecord.{TargetRecord}
 use Rattle.monitor_model.specs.declared.tables.Tables.{Tables}
 use Rattle.monitor_model.specs.Records.{compartment_at, site_at, targets_of, last_with_entry, stack_end, eighth, rounded}
-use Rattle.monitor_model.specs.Area.{HasTables}
 use Rattle.monitor_model.specs.Regions.{regions_for}
 use Rattle.monitor_model.specs.Placed.{Placed, IsEntry}
 use Rattle.monitor_program.specs.Constants.{Constants, constants_with}
-use Rattle.monitor_program.specs.Svc.{enter}
+use Rattle.monitor_program.specs.Svc.{enter, raise, save, frame as frame_steps, entered, rounded as rounded_steps, target}
+use Rattle.monitor_program.specs.Opening.{tables_of, closed_up}
 use Rattle.monitor_laws.proofs.Off.{core, with_unit, IsOff}
-use Rattle.monitor_laws.proofs.Written.{tables_within}
+use Rattle.monitor_laws.proofs.Written.{tables_within, open_stack}
 use Rattle.monitor_laws.proofs.Tables.{StackSize, stack_size, shaped, has_compartment, record_at, top_is, unit_is}
 use Rattle.monitor_laws.proofs.Placement.{writable}
-use Rattle.monitor_laws.proofs.Opened.{Handles}
 use Rattle.monitor_laws.proofs.Unlend.{closed_within}
 use Rattle.monitor_laws.proofs.HandlerWords.{changed_write, InStack, apart_from_block}
 use Rattle.monitor_laws.proofs.Leave.{HasFirstRegions}
@@ -35,6 +34,9 @@ use Rattle.monitor_laws.proofs.EnterRounded.{rounded_within}
 use Rattle.monitor_laws.proofs.EnterSave.{Saves, Counted, raise_within, save_within, entered_within}
 use Rattle.monitor_laws.proofs.EnterFrame.{Framed, frame_within}
 use Rattle.monitor_handlers.proofs.Targets.{SiteFits, compartment_of, target_is, to, site_targets, site_chosen}
+use Rattle.monitor_laws.proofs.Opened.{HandlerPremises}
+use Rattle.monitor_laws.specs.RegionsWritten.{Writable}
+use Rattle.base_ranges.specs.Ranges.{IsPowerBetween}
 
 -- what enter leaves of RAM in which the return address has been raised
 pub record HasEntered (i : Image) (t : Tables) (link psp o fo d current new_top entry : ℕ) (old new : List ℕ) : Type 0 where
@@ -104,7 +106,7 @@ module _ (i : Image) (t : Tables) (p : Placed i t) where
   -- ---- the new TOP
 
   size_is : StackSize t.stack.size
-  size_is = stack_size t.stack.size (subst (λ z. Rattle.base_ranges.specs.Ranges.IsPowerBetween 9 16 z) (sym p.stack_size) p.stack.size)
+  size_is = stack_size t.stack.size (subst (λ z. IsPowerBetween 9 16 z) (sym p.stack_size) p.stack.size)
 
   four_times : (n e : ℕ) → e % 4 ≡ 0 → (n * e) % 4 ≡ 0
   four_times n e h =
@@ -116,7 +118,7 @@ module _ (i : Image) (t : Tables) (p : Placed i t) where
   eighth_four : eighth t % 4 ≡ 0
   eighth_four =
       let z = size_is.eighths in
-      let a = size_is.aligned t.stack.size (Rattle.std.proofs.Math.Nat.mod_self t.stack.size) in
+      let a = size_is.aligned t.stack.size (mod_self t.stack.size) in
       omega (arith, z, a)
 
   -- of a frame in the stack with some eighth below it: where the new TOP lies
@@ -152,8 +154,10 @@ module _ (i : Image) (t : Tables) (p : Placed i t) where
       fewer : (n : ℕ) → n * eighth t ≤ psp - t.stack.base → n ≤ 7
       fewer n h = ⊎_elim (λ x. omega (arith, x)) (λ x. absurd (let y = eight_times n x in let z = size_is.eighths in omega (arith, y, z, h, hi, lo))) (cases_lt n 8)
 
-module _ (i : Image) (t : Tables) (p : Placed i t) (has : HasTables i t) (stub : ℕ) (Good : ProtectionState → Type 0) (Allowed : Rule) {entry_top : ℕ} (handles : Handles i t entry_top Allowed) (good : (q : ProtectionState) → IsOff true q → Good q)
-    (on : (q : ProtectionState) (cur top : ℕ) → cur < length t.comps → q.handler ≡ true → q.mpu.regions ≡ regions_for i t cur top → Good (with_unit q (record q.mpu { control = 5 }))) where
+module _ (premises : HandlerPremises)
+    (on : (q : ProtectionState) (cur top : ℕ) → cur < length premises.installed.tables.comps → q.handler ≡ true → q.mpu.regions ≡ regions_for premises.installed.image premises.installed.tables cur top → premises.Good (with_unit q (record q.mpu { control = 5 }))) where
+  open premises use {installed, installed.{image as i, tables as t, placed as p, stub}, Good, Allowed, entry_top, handles, good}
+
   abbrev k : Constants
   k = constants_with stub t
 
@@ -198,10 +202,10 @@ module _ (i : Image) (t : Tables) (p : Placed i t) (has : HasTables i t) (stub :
       return_low = let e = a.return_at in let r = a.return_room in let h = p.rules.flash_highest in let z = p.rules.flash_most in omega (arith, e, r, h, z)
 
       stack_inside : t.stack.base + t.stack.size ≤ i.ram_base + i.ram_size
-      stack_inside = (writable i t p has stub).stack_inside.1
+      stack_inside = (writable installed).stack_inside.1
 
       base_inside : i.ram_base ≤ t.stack.base
-      base_inside = (writable i t p has stub).stack_inside.0
+      base_inside = (writable installed).stack_inside.0
 
       psp_low : t.stack.base ≤ psp
       psp_low = let e = a.at in let l = a.frame.low in omega (arith, e, l)
@@ -238,18 +242,18 @@ module _ (i : Image) (t : Tables) (p : Placed i t) (has : HasTables i t) (stub :
         psp_new = let e = fo_is in omega (arith, e)
 
         -- from the new TOP on
-        rest_within : (g : TargetRecord) {ks : List PrivilegedSteps} {Q : Outcome → Type 0} (a4 a7 : ℕ) → IsEntry t g.entry g.compartment → g.entry ≡ read 4 (o + 16) m →
+        rest_within : (g : TargetRecord) {ks : List PrivilegedSteps} {Q : Outcome → Type 0} {a4 a7 : ℕ} → IsEntry t g.entry g.compartment → g.entry ≡ read 4 (o + 16) m →
             ((c : Core) → EndsEnter q o d ret g m c → Q (AtReturn c)) →
-            W 219 (Rattle.monitor_program.specs.Svc.raise (Rattle.monitor_program.specs.Svc.save (Rattle.monitor_program.specs.Svc.frame k (Rattle.monitor_program.specs.Svc.entered (Rattle.monitor_program.specs.Opening.tables_of k Rattle.monitor_program.specs.Opening.closed_up))))) ks
+            W 219 (raise ▸ save ▸ frame_steps k ▸ entered ▸ tables_of k ▸ closed_up) ks
             (core msp psp q u m psp k.block k.stack (rounded t psp) a4 g.compartment 0 a7) Q
-        rest_within g {ks} {Q} a4 a7 is_entry wanted_is f =
+        rest_within g {ks} {Q} is_entry wanted_is f =
             more_within
-            (raise_within i t p has stub Good Allowed handles good msp psp u o top ret q m k.block k.stack (rounded t psp) a4 g.compartment 0 a7 a.off a.at a.frame a.below a.top_is a.return_is return_low (λ v4 m1 w1 z1.
-            save_within i t p has stub Good Allowed handles good msp psp u d q m1 k.stack (rounded t psp) v4 g.compartment 2 a7 a.off a.shallow (depth1 m1 w1) (z1 ∙ a.as_long) psp_small (λ y6 y7 m2 s.
-            frame_within i t p has stub Good Allowed handles good msp psp u o (rounded t psp - i.ram_base - 32) top (g.entry - 1) (rounded t psp) q m2 k.block k.stack d g.compartment y6 y7 a.off a.at a.frame a.below fo_frame fo_apart fo_is (top2 m1 m2 w1 s) (wanted2 m1 m2 w1 s) (omega arith) (s.changed.as_long ∙ z1 ∙ a.as_long) (λ m3 r.
-            entered_within i t p has stub Good Allowed handles good msp psp u d g.compartment (rounded t psp) (rounded t psp - i.ram_base - 32) q m3 psp 1 0x01000000 a.off a.shallow compartment_small top_small (r.changed.as_long ∙ s.changed.as_long ∙ z1 ∙ a.as_long) fo_frame.aligned (λ m4 z7 c.
-            tables_within i p.rules k Good Allowed true handles.plain good msp (i.ram_base + (rounded t psp - i.ram_base - 32)) u g.compartment (record_at i t w stub g.compartment) z.eighths (rounded t psp) (compartment_at t g.compartment).code (compartment_at t g.compartment).slots q m4 psp k.block 1 (d + 1) (i.ram_base + (rounded t psp - i.ram_base - 32)) z7 a.off (shaped i t w stub) (has_compartment i t w stub g.compartment is_entry.compartment_in) compartment_small z.some most (top_is i t w stub z.eighths (rounded t psp) z.at) (λ q1 y2 v6 v7 e1 off1.
-            closed_within i t p has stub Good Allowed handles good msp (i.ram_base + (rounded t psp - i.ram_base - 32)) u q1 m4 MPU_RBAR k.block y2 (rounded t psp) (d + 1) g.compartment v6 v7 off1 (on q1 g.compartment (rounded t psp) is_entry.compartment_in off1.mode (regions_are q1 e1)) (λ q2 e2.
+            (raise_within premises o top ret a.off a.at a.frame a.below a.top_is a.return_is return_low (λ v4 m1 w1 z1.
+            save_within premises d a.off a.shallow (depth1 m1 w1) (z1 ∙ a.as_long) psp_small (λ y6 y7 m2 s.
+            frame_within premises o (rounded t psp - i.ram_base - 32) top (g.entry - 1) (rounded t psp) a.off a.at a.frame a.below fo_frame fo_apart fo_is (top2 m1 m2 w1 s) (wanted2 m1 m2 w1 s) (omega arith) (s.changed.as_long ∙ z1 ∙ a.as_long) (λ m3 r.
+            entered_within premises d g.compartment (rounded t psp) (rounded t psp - i.ram_base - 32) a.off a.shallow compartment_small top_small (r.changed.as_long ∙ s.changed.as_long ∙ z1 ∙ a.as_long) fo_frame.aligned (λ m4 z7 c.
+            tables_within i p.rules k Good Allowed true handles.plain good msp (i.ram_base + (rounded t psp - i.ram_base - 32)) u g.compartment (record_at i t w stub g.compartment) z.eighths (rounded t psp) (compartment_at t g.compartment).code (compartment_at t g.compartment).slots a.off (shaped i t w stub) (has_compartment i t w stub g.compartment is_entry.compartment_in) compartment_small z.some most (top_is i t w stub z.eighths (rounded t psp) z.at) (λ q1 y2 v6 v7 e1 off1.
+            closed_within premises off1 (on q1 g.compartment (rounded t psp) is_entry.compartment_in off1.mode (regions_are q1 e1)) (λ q2 e2.
             f _ (record {
               msp_is = refl;
               psp_is = psp_new;
@@ -262,8 +266,8 @@ module _ (i : Image) (t : Tables) (p : Placed i t) (has : HasTables i t) (stub :
               left = entered_done i t p k.stub_entry psp o (rounded t psp - i.ram_base - 32) d g.compartment (rounded t psp) (g.entry - 1) top m1 m2 m3 m4 a.frame fo_frame fo_apart a.shallow s r c;
             })))))))) (omega arith)
           where
-            w : Rattle.monitor_laws.specs.RegionsWritten.Writable i t
-            w = writable i t p has stub
+            w : Writable i t
+            w = writable installed
 
             most : z.eighths ≤ 8
             most = let h = z.few in omega (arith, h)
@@ -284,7 +288,7 @@ module _ (i : Image) (t : Tables) (p : Placed i t) (has : HasTables i t) (stub :
                 ∙ sym wanted_is
                 ∙ (let x = is_entry.odd in omega (arith, x))
 
-            regions_are : (q1 : ProtectionState) → q1 ≡ with_unit q (Rattle.machine_protection.specs.Configured.written ((compartment_at t g.compartment).code ∷ (Rattle.monitor_laws.proofs.Written.open_stack k z.eighths ∷ (compartment_at t g.compartment).slots)) q.mpu) → q1.mpu.regions ≡ regions_for i t g.compartment (rounded t psp)
+            regions_are : (q1 : ProtectionState) → q1 ≡ with_unit q (written ((compartment_at t g.compartment).code ∷ (open_stack k z.eighths ∷ (compartment_at t g.compartment).slots)) q.mpu) → q1.mpu.regions ≡ regions_for i t g.compartment (rounded t psp)
             regions_are q1 e = ap (λ p. p.mpu.regions) e ∙ unit_is i t w stub z.eighths (rounded t psp) g.compartment a.first.others q.mpu most is_entry.compartment_in z.at a.first.count a.first.regions
 
       abbrev last : Option TargetRecord
@@ -293,13 +297,13 @@ module _ (i : Image) (t : Tables) (p : Placed i t) (has : HasTables i t) (stub :
       -- where the site is known
       module _ (lt : read 2 ro i.flash < length t.sites) (re : (site_at t (read 2 ro i.flash)).ret ≡ ret) where
         abbrev at_targets : ℕ
-        at_targets = to i t p has stub (site_at t (read 2 ro i.flash)) (a.sites (read 2 ro i.flash) lt)
+        at_targets = to installed (site_at t (read 2 ro i.flash)) (a.sites (read 2 ro i.flash) lt)
 
         abbrev found : ℕ
         found = chosen i.flash at_targets (read 4 (o + 16) m) (site_at t (read 2 ro i.flash)).count
 
         found_is : found ≡ compartment_of last
-        found_is = site_chosen i t p has stub (site_at t (read 2 ro i.flash)) (a.sites (read 2 ro i.flash) lt) (read 4 (o + 16) m)
+        found_is = site_chosen installed (site_at t (read 2 ro i.flash)) (a.sites (read 2 ro i.flash) lt) (read 4 (o + 16) m)
 
         is_target : (g : TargetRecord) → last ≡ Some g → (g.entry ≡ read 4 (o + 16) m) × IsEntry t g.entry g.compartment
         is_target g e = target_is t (site_at t (read 2 ro i.flash)) (read 4 (o + 16) m) g p.targets e
@@ -311,13 +315,13 @@ module _ (i : Image) (t : Tables) (p : Placed i t) (has : HasTables i t) (stub :
         picked_within : {ks : List PrivilegedSteps} {Q : Outcome → Type 0} (l : Option TargetRecord) (v4 v7 : ℕ) → last ≡ l → found ≢ 0xFFFFFFFF →
             ((c : Core) (g : TargetRecord) → c.ram ≡ m → last ≡ Some g → rounded t psp ≡ t.stack.base → Q (Halted 5 c)) →
             ((c : Core) (g : TargetRecord) → last ≡ Some g → IsEntry t g.entry g.compartment → NewTop i t p psp → EndsEnter q o d ret g m c → Q (AtReturn c)) →
-            W 244 (Rattle.monitor_program.specs.Svc.rounded k (Rattle.monitor_program.specs.Svc.raise (Rattle.monitor_program.specs.Svc.save (Rattle.monitor_program.specs.Svc.frame k (Rattle.monitor_program.specs.Svc.entered (Rattle.monitor_program.specs.Opening.tables_of k Rattle.monitor_program.specs.Opening.closed_up)))))) ks
+            W 244 (rounded_steps k ▸ raise ▸ save ▸ frame_steps k ▸ entered ▸ tables_of k ▸ closed_up) ks
             (core msp psp q u m psp k.block k.stack 0xFFFFFFFF v4 found 0 v7) Q
         picked_within None v4 v7 e n r5 go = absurd (n (found_is ∙ ap compartment_of e))
         picked_within {ks} {Q} (Some g) v4 v7 e n r5 go =
             at_within (ap (λ x. core msp psp q u m psp k.block k.stack 0xFFFFFFFF v4 x 0 v7) (found_is ∙ ap compartment_of e))
-            (rounded_within i t p has stub Good Allowed msp psp u q m k.block 0xFFFFFFFF v4 g.compartment 0 v7 psp_low psp_end (λ c e1 x. r5 c g e1 e x) (λ pos.
-            rest_within (new_top i t p psp psp_low psp_high pos) g v4 v7 (is_target g e).1 (is_target g e).0 (λ c x. go c g e (is_target g e).1 (new_top i t p psp psp_low psp_high pos) x)))
+            (rounded_within premises psp_low psp_end (λ c e1 x. r5 c g e1 e x) (λ pos.
+            rest_within (new_top i t p psp psp_low psp_high pos) g (is_target g e).1 (is_target g e).0 (λ c x. go c g e (is_target g e).1 (new_top i t p psp psp_low psp_high pos) x)))
 
         few_steps : 25 + 16 * (site_at t (read 2 ro i.flash)).count + 244 ≤ 1293
         few_steps = let f = (a.sites (read 2 ro i.flash) lt).few in omega (arith, f)
@@ -326,22 +330,22 @@ module _ (i : Image) (t : Tables) (p : Placed i t) (has : HasTables i t) (stub :
             ((c : Core) → c.ram ≡ m → last ≡ None → Q (Halted 3 c)) →
             ((c : Core) (g : TargetRecord) → c.ram ≡ m → last ≡ Some g → rounded t psp ≡ t.stack.base → Q (Halted 5 c)) →
             ((c : Core) (g : TargetRecord) → last ≡ Some g → IsEntry t g.entry g.compartment → NewTop i t p psp → EndsEnter q o d ret g m c → Q (AtReturn c)) →
-            W 1293 (Rattle.monitor_program.specs.Svc.target k (Rattle.monitor_program.specs.Svc.rounded k (Rattle.monitor_program.specs.Svc.raise (Rattle.monitor_program.specs.Svc.save (Rattle.monitor_program.specs.Svc.frame k (Rattle.monitor_program.specs.Svc.entered (Rattle.monitor_program.specs.Opening.tables_of k Rattle.monitor_program.specs.Opening.closed_up))))))) ks
+            W 1293 (target k ▸ rounded_steps k ▸ raise ▸ save ▸ frame_steps k ▸ entered ▸ tables_of k ▸ closed_up) ks
             (core msp psp q u m psp k.block k.stack top ret (site_at t (read 2 ro i.flash)).first (site_at t (read 2 ro i.flash)).count v7) Q
         target_on {ks} {Q} v7 r3 r5 go =
             more_within
-            (target_within i t p has stub Good Allowed handles good msp psp u (site_at t (read 2 ro i.flash)).first (site_at t (read 2 ro i.flash)).count at_targets o top q m k.block k.stack top ret v7 a.off a.at a.frame a.below a.top_is
-            (site_targets i t p has stub (site_at t (read 2 ro i.flash)) (a.sites (read 2 ro i.flash) lt) Good Allowed handles good)
+            (target_within premises msp psp u (site_at t (read 2 ro i.flash)).first (site_at t (read 2 ro i.flash)).count at_targets o top a.off a.at a.frame a.below a.top_is
+            (site_targets installed (site_at t (read 2 ro i.flash)) (a.sites (read 2 ro i.flash) lt))
             (λ c e n. r3 c e (none_by last refl n))
             (λ v4 w7 n. picked_within last v4 w7 refl n r5 go)) few_steps
 
       -- all of it: 306 steps, and 16 for each target of the site
-      pub enter_within : {ks : List PrivilegedSteps} {Q : Outcome → Type 0} (a5 a6 a7 : ℕ) →
+      pub enter_within : {ks : List PrivilegedSteps} {Q : Outcome → Type 0} {a5 a6 a7 : ℕ} →
           ((c : Core) → c.ram ≡ m → (read 2 ro i.flash < length t.sites → (site_at t (read 2 ro i.flash)).ret ≡ ret → ⊥) → Q (Halted 2 c)) →
           ((c : Core) → c.ram ≡ m → read 2 ro i.flash < length t.sites → (site_at t (read 2 ro i.flash)).ret ≡ ret → last ≡ None → Q (Halted 3 c)) →
           ((c : Core) (g : TargetRecord) → c.ram ≡ m → read 2 ro i.flash < length t.sites → (site_at t (read 2 ro i.flash)).ret ≡ ret → last ≡ Some g → rounded t psp ≡ t.stack.base → Q (Halted 5 c)) →
           ((c : Core) (g : TargetRecord) → read 2 ro i.flash < length t.sites → (site_at t (read 2 ro i.flash)).ret ≡ ret → last ≡ Some g → IsEntry t g.entry g.compartment → NewTop i t p psp → EndsEnter q o d ret g m c → Q (AtReturn c)) →
           W 1330 (enter k) ks (core msp psp q u m psp k.block k.stack top ret a5 a6 a7) Q
-      enter_within {ks} {Q} a5 a6 a7 r2 r3 r5 go =
-          site_within i t p has stub Good Allowed handles msp psp u ret ro q m psp k.block k.stack top a5 a6 a7 a.off a.return_at a.return_even a.return_room r2
+      enter_within {ks} {Q} r2 r3 r5 go =
+          site_within premises ret ro a.off a.return_at a.return_even a.return_room r2
           (λ v7 lt re. target_on lt re v7 (λ c e n. r3 c e lt re n) (λ c g e n x. r5 c g e lt re n x) (λ c g n x y z. go c g lt re n x y z))

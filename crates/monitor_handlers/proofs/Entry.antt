@@ -13,7 +13,7 @@ use Rattle.machine_model.specs.declared.state.FaultStatus.{FaultStatus}
 use Rattle.machine_model.specs.State.{State, by_mpu, is_unprivileged}
 use Rattle.machine_model.specs.Exceptions.{entered as entry, frame_at, frame_of, vector, return_on_psp, return_on_msp, is_frame_open}
 use Rattle.machine_model.specs.EntryFrame.{OpenFrame, OpenFramesAreWords}
-use Rattle.machine_model.specs.Shape.{StateFits, StatusFits}
+use Rattle.machine_model.specs.Shape.{StateFits, StatusFits, EachWord}
 use Rattle.machine_model.specs.Code.{live}
 use Rattle.monitor_steps.specs.Runs.{Scratch, at}
 use Rattle.monitor_model.specs.declared.tables.Tables.{Tables}
@@ -147,7 +147,7 @@ module _ (laws : EntryLaws) (i : Image) (t : Tables) (p : Placed i t) (s : State
     core = record {
       low_count = refl;
       high_count = inv.fits.core.high_count;
-      low_words = subst Rattle.machine_model.specs.Shape.EachWord (eight s.core.low inv.fits.core.low_count) inv.fits.core.low_words;
+      low_words = subst EachWord (eight s.core.low inv.fits.core.low_count) inv.fits.core.low_words;
       high_words = inv.fits.core.high_words;
       sp_word = let a = p.block_inside.1 in let h = p.rules.ram_highest in let z = p.rules.ram_most in omega (arith, a, h, z);
       sp_aligned = let a = p.block_aligned in omega (arith, a);

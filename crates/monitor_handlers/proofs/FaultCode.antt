@@ -19,7 +19,7 @@ use Rattle.monitor_program.specs.Svc.{svc}
 use Rattle.monitor_program.specs.MemFault.{memfault}
 use Rattle.monitor_program.specs.Reset.{reset}
 use Rattle.monitor_program.specs.CodeSize.{CodeFits}
-use Rattle.monitor_program.specs.Page.{reset_offset, svc_offset, memfault_offset, vectors, bytes_of_words, used_bytes, leave_stub, constants, page, vector_to}
+use Rattle.monitor_program.specs.Page.{reset_offset, svc_offset, memfault_offset, vectors, bytes_of_words, used_bytes, leave_stub, constants, page, vector_to, stub_address}
 use Rattle.monitor_laws.proofs.PageCode.{middle}
 use Rattle.monitor_handlers.proofs.Encodings.{memfault_in_table}
 
@@ -90,7 +90,7 @@ module _ (i : Image) (t : Tables) (rules : ObeysRules i) (rest : List ℕ) (has 
           omega (arith, a, b, d, l)
 
   pub has_memfault : k.slots ≤ 12 → CodeIn i (i.flash_base + offset) (code (memfault k))
-  has_memfault h = bytes_are_code i offset (code (memfault k)) rules (memfault_in_table (Rattle.monitor_program.specs.Page.stub_address t) t h (let r = room in omega (arith, r))) holds_memfault
+  has_memfault h = bytes_are_code i offset (code (memfault k)) rules (memfault_in_table (stub_address t) t h (let r = room in omega (arith, r))) holds_memfault
 
   -- ---- the vector
 

@@ -35,13 +35,14 @@ use Rattle.monitor_model.specs.Outcomes.{Outcome as Comes, Halts, StopsAtBus, St
 use Rattle.monitor_model.specs.FaultOutcome.{fault_outcome}
 use Rattle.monitor_model.specs.MonitorLaw.{IsMemory, Shows, memfault_steps}
 use Rattle.monitor_model.specs.Promises.{OfSoundImages}
+use Rattle.monitor_model.specs.BlockWords.{IsBlock, words_end}
 use Rattle.monitor_program.specs.TheCode.{monitor_code}
 use Rattle.monitor_laws.specs.StartUp.{IsReady}
 use Rattle.monitor_laws.proofs.SoundImages.{sound_images_are_ready}
 use Rattle.monitor_laws.proofs.Fetched.{UnitLaws, page_is_fetched}
 use Rattle.monitor_laws.proofs.Effects.{ticks_of}
 use Rattle.monitor_laws.proofs.Tables.{slots_are}
-use Rattle.monitor_laws.proofs.Placement.{writable}
+use Rattle.monitor_laws.proofs.Placement.{writable, Installed, ready_image}
 use Rattle.monitor_laws.proofs.Off.{core, with_unit}
 use Rattle.monitor_laws.proofs.HandlerRule.{HandlerRule, runs_handle}
 use Rattle.monitor_handlers.specs.FaultLaw.{FaultLaw}
@@ -68,6 +69,9 @@ same_memory : (i : Image) (t : Tables) (from : ℕ) (memory ram : List ℕ) → 
 same_memory i t from memory ram e = record { reads = λ w o off. ap (λ m. read w o m) e; as_long = ap (λ m. length m) e }
 
 module _ (laws : FaultLaws) (i : Image) (t : Tables) (ready : IsReady i t) where
+  abbrev installed : Installed
+  installed = ready_image i t ready
+
   rules : ObeysRules i
   rules = ready.placed.rules
 
@@ -81,7 +85,7 @@ module _ (laws : FaultLaws) (i : Image) (t : Tables) (ready : IsReady i t) where
   code_room = there.room i t rules ready.behind_page ready.has_page ready.placed.tables_first laws.code_fits
 
   slots_most : k.slots ≤ 12
-  slots_most = let w = writable i t ready.placed ready.has_tables (stub_address t) in let e = slots_are i t w (stub_address t) in let m = w.most in omega (arith, e, m)
+  slots_most = let w = writable installed in let e = slots_are i t w (stub_address t) in let m = w.most in omega (arith, e, m)
 
   code_in : CodeIn i (i.flash_base + memfault_offset (constants t)) (code (memfault (constants t)))
   code_in = there.has_memfault i t rules ready.behind_page ready.has_page ready.placed.tables_first laws.code_fits slots_most
@@ -181,10 +185,10 @@ module _ (laws : FaultLaws) (i : Image) (t : Tables) (ready : IsReady i t) where
     outcome = fault_outcome i t b psp memory u.cfsr half
 
     abbrev Ended : Comes → Outcome → Type 0
-    Ended y x = Ends i t ready.placed ready.has_tables (stub_address t) s (IsGood i) (good_while_off i rules) msp psp u r good_r b o memory psp_is at_fault y x
+    Ended y x = Ends installed s (IsGood i) (good_while_off i rules) msp psp u r good_r b o memory psp_is at_fault y x
 
     given : GivesWithin by_mpu i (IsGood i) (HandlerRule i t s) 1730 (memfault (constants t)) [] c0 (Ended outcome)
-    given = memfault_within i t ready.placed ready.has_tables (stub_address t) s (IsGood i) (good_while_off i rules) msp psp u r good_r b o memory psp_is at_fault in_handler half (low 0) (low 1) (low 2) (low 3) (low 4) (low 5) (low 6) (low 7) refl refl refl small (cause_by fault)
+    given = memfault_within installed s (IsGood i) (good_while_off i rules) msp psp u r good_r b o memory psp_is at_fault half refl refl refl small (cause_by fault)
 
     -- ---- its code
 
@@ -217,9 +221,9 @@ module _ (laws : FaultLaws) (i : Image) (t : Tables) (ready : IsReady i t) where
 
     left_as : (ram : List ℕ) → ram ≡ memory → LeavesRam i t b b memory ram
     left_as ram e = record {
-      is_block = subst (λ (m : List ℕ). Rattle.monitor_model.specs.BlockWords.IsBlock i t m b) (sym e) at_fault.is_block;
+      is_block = subst (λ (m : List ℕ). IsBlock i t m b) (sym e) at_fault.is_block;
       is_memory = same_memory i t 0 memory ram e;
-      words_stay = λ z. same_memory i t Rattle.monitor_model.specs.BlockWords.words_end memory ram e;
+      words_stay = λ z. same_memory i t words_end memory ram e;
     }
 
     shallow : length b.saved ≤ 8
@@ -236,9 +240,9 @@ module _ (laws : FaultLaws) (i : Image) (t : Tables) (ready : IsReady i t) where
       no_fault = ap (λ (v : FaultStatus). v.cfsr) done.status;
       enabled = ap (λ (v : FaultStatus). v.shcsr) done.status ∙ enabled_by fault;
       ram = record {
-        is_block = subst (λ (m : List ℕ). Rattle.monitor_model.specs.BlockWords.IsBlock i t m b) (sym done.ram) (block_stays i t memory after b shallow inv.inv.orderly.few stays at_fault.is_block);
+        is_block = subst (λ (m : List ℕ). IsBlock i t m b) (sym done.ram) (block_stays i t memory after b shallow inv.inv.orderly.few stays at_fault.is_block);
         is_memory = same_memory i t 0 after d.ram done.ram;
-        words_stay = λ z. same_memory i t Rattle.monitor_model.specs.BlockWords.words_end after d.ram done.ram;
+        words_stay = λ z. same_memory i t words_end after d.ram done.ram;
       };
       offset = o;
       at = psp_is;
@@ -246,7 +250,7 @@ module _ (laws : FaultLaws) (i : Image) (t : Tables) (ready : IsReady i t) where
         aligned = at_fault.aligned;
         low = f.low;
         high = let x = f.high in let e = at_fault.is_block.top_is in omega (arith, x, e);
-        ends = subst (λ (n : ℕ). n ≤ stack_end t) at_fault.is_block.top_is (ends i t ready.placed ready.has_tables (stub_address t) s (IsGood i) (good_while_off i rules) msp psp u r good_r b o memory psp_is at_fault);
+        ends = subst (λ (n : ℕ). n ≤ stack_end t) at_fault.is_block.top_is (ends installed s (IsGood i) (good_while_off i rules) msp psp u r good_r b o memory psp_is at_fault);
       };
       may_load = may_load;
       current_in = inv.inv.orderly.current_in;

@@ -40,6 +40,7 @@ use Rattle.monitor_laws.proofs.Numbers.{times_over}
 use Rattle.monitor_laws.proofs.Tables.{StackSize, stack_size}
 use Rattle.machine_model.proofs.StackWords.{get_or-words_at as nth_word, behind, head_place, stacked_are}
 use Rattle.base_laws.proofs.Lists.{each_at}
+use Rattle.base_ranges.specs.Ranges.{IsPowerBetween}
 
 -- ---- words
 
@@ -98,7 +99,7 @@ pub record StackLaws : Type 0 where
 
 module _ (laws : StackLaws) (i : Image) (t : Tables) (p : Placed i t) where
   size_is : StackSize t.stack.size
-  size_is = stack_size t.stack.size (subst (λ z. Rattle.base_ranges.specs.Ranges.IsPowerBetween 9 16 z) (sym p.stack_size) p.stack.size)
+  size_is = stack_size t.stack.size (subst (λ z. IsPowerBetween 9 16 z) (sym p.stack_size) p.stack.size)
 
   no_slot_holds : (gs : List Region) → Each (IsSlot i t) gs → (a : ℕ) → t.stack.base ≤ a → a < stack_end t → NoneOf gs a
   no_slot_holds [] e a lo hi = tt

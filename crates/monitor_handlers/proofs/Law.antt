@@ -61,9 +61,10 @@ use Rattle.monitor_handlers.proofs.SvcCode.{offset, room, has_svc, vector_is, of
 use Rattle.monitor_handlers.proofs.Entry as entry
 use Rattle.monitor_handlers.proofs.Entry.{EntryLaws}
 use Rattle.monitor_handlers.proofs.Returned.{ReturnLaws, concluded}
-use Rattle.monitor_handlers.proofs.Calling.{Calling, good_entry, outcome_open, outcome_shut}
+use Rattle.monitor_handlers.proofs.Calling.{Calling, good_entry, outcome_open, outcome_shut, installed_at}
 use Rattle.monitor_handlers.proofs.Numbers as by
 use Rattle.monitor_handlers.proofs.Bus as bus
+use Rattle.monitor_handlers.proofs.Frames.{stacked_is}
 use Rattle.base_laws.proofs.Lists.{each_at}
 
 -- the laws of lower crates that the law rests on
@@ -170,7 +171,7 @@ module _ (laws : CallLaws) (i : Image) (t : Tables) (fit : IsFit i t) (s : State
   code_room = room i t p.rules fit.behind fit.has_page p.tables_first laws.code_fits
 
   slots_most : k.slots ≤ 12
-  slots_most = let w = writable i t p fit.tables stub in let e = slots_are i t w stub in let m = w.most in omega (arith, e, m)
+  slots_most = let w = writable (installed_at calling stub) in let e = slots_are i t w stub in let m = w.most in omega (arith, e, m)
 
   code_there : CodeIn i pc0 (code (svc k))
   code_there = has_svc i t p.rules fit.behind fit.has_page p.tables_first laws.code_fits slots_most
@@ -320,7 +321,7 @@ module _ (laws : CallLaws) (i : Image) (t : Tables) (fit : IsFit i t) (s : State
     stops_outcome f =
         outcome_open i t stub s m psp o memory calling n f
         ∙ ap (λ x. by_number i t stub m psp memory x) zero_is
-        ∙ ap (λ r. enter_at i t stub m psp memory (location i r)) (Rattle.monitor_handlers.proofs.Frames.stacked_is i psp o 6 memory calling.at (omega arith) ∙ return_is)
+        ∙ ap (λ r. enter_at i t stub m psp memory (location i r)) (stacked_is i psp o 6 memory calling.at (omega arith) ∙ return_is)
         ∙ ap (λ l. enter_at i t stub m psp memory l) nowhere
 
     abbrev at_test : Core

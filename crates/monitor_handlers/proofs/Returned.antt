@@ -29,9 +29,9 @@ use Rattle.monitor_model.specs.declared.tables.Tables.{Tables}
 use Rattle.monitor_model.specs.Regions.{regions_for}
 use Rattle.monitor_model.specs.Placed.{Placed}
 use Rattle.monitor_model.specs.Block.{MonitorBlock}
-use Rattle.monitor_model.specs.BlockWords.{IsBlock, top}
+use Rattle.monitor_model.specs.BlockWords.{IsBlock, top, words_end}
 use Rattle.monitor_model.specs.Invariant.{IsTop}
-use Rattle.monitor_model.specs.Reach.{AllBytes, LoadKind, OfStack}
+use Rattle.monitor_model.specs.Reach.{AllBytes, LoadKind, OfStack, StoreKind}
 use Rattle.monitor_model.specs.Handlers.{LoadFor, Handles, Leads}
 use Rattle.monitor_model.specs.Outcomes.{Outcome, Halts, StopsAtBus, StopsUnaligned, Resumes, frame_in, stacked, status_place}
 use Rattle.monitor_model.specs.MonitorLaw.{IsMemory, IsLeft, EndsThere, ReturnsBy, Shows}
@@ -43,7 +43,7 @@ use Rattle.monitor_handlers.proofs.Frames.{StackLaws, words_same, returns_turn, 
 pub record LeavesRam (i : Image) (t : Tables) (m b : MonitorBlock) (memory ram : List ℕ) : Type 0 where
   pub is_block : IsBlock i t ram b
   pub is_memory : IsMemory i t 0 memory ram
-  pub words_stay : b ≡ m → IsMemory i t Rattle.monitor_model.specs.BlockWords.words_end memory ram
+  pub words_stay : b ≡ m → IsMemory i t words_end memory ram
 
 -- a core before the exception return to a thread, of a thread's state before
 pub record Resuming (i : Image) (t : Tables) (s : State) (m b : MonitorBlock) (psp : ℕ) (after : List ℕ) (d : Core) : Type 0 where
@@ -201,7 +201,7 @@ module _ (laws : ReturnLaws) (i : Image) (t : Tables) (p : Placed i t) (s : Stat
     handles = record {
       handler = mode;
       quiet = ap (λ u. u.event) turn_is ∙ quiet_by (is_thread (stacked i psp after status_place));
-      stores = subst (λ l. Each (AllBytes (Rattle.monitor_model.specs.Reach.StoreKind i t v)) l) (sym (ap (λ u. u.stores) turn_is ∙ stores_by (is_thread (stacked i psp after status_place)))) tt;
+      stores = subst (λ l. Each (AllBytes (StoreKind i t v)) l) (sym (ap (λ u. u.stores) turn_is ∙ stores_by (is_thread (stacked i psp after status_place)))) tt;
       loads = λ closed. loads_are (LoadKind i t v) in_stack;
       loads_for = λ closed. loads_are (LoadFor i t s) in_reach;
     }

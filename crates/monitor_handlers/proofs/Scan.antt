@@ -2,33 +2,32 @@
 use Rattle.std.proofs.Common.{◌≡◌, ℕ, suc, ◌+◌, ◌-◌, ◌*◌, ◌%◌, ◌^◌, ◌<◌, ◌≤◌, Bool, true, false, List, [], ◌∷◌, ◌++◌, length, nat_eq, nat_le, refl, sym, ap, ◌∙◌, arith}
 use Rattle.std.proofs.lemmas.Bool.{false≢true}
 use Rattle.std.specs.Prelude.{bit_and, flat_map}
-use Rattle.base_words.specs.Arithmetic.{subtract, shift_right}
+use Rattle.base_words.specs.Arithmetic.{subtract, shift_right, add}
 use Rattle.base_words.specs.Bytes.{read}
 use Rattle.base_words.specs.declared.memory.Width.TheVariants.{Word}
 use Rattle.machine_protection.specs.declared.region.Access.TheVariants.{Read}
-use Rattle.machine_devices.specs.declared.image.Image.{Image}
 use Rattle.machine_model.specs.declared.state.ProtectionState.{ProtectionState}
 use Rattle.machine_model.specs.declared.state.FaultStatus.{FaultStatus}
 use Rattle.machine_model.specs.State.{State, by_mpu}
 use Rattle.monitor_steps.specs.declared.steps.PrivilegedOp.TheVariants.{Add}
-use Rattle.monitor_steps.specs.Steps.{PrivilegedSteps, End, Const, Load, Alu, Repeat}
+use Rattle.monitor_steps.specs.Steps.{PrivilegedSteps, End, Const, Load, Alu, Repeat, ◌▸◌}
 use Rattle.monitor_steps.specs.Core.{Core, low_register, with_low}
 use Rattle.monitor_steps.specs.Effect.{Outcome, Went, Halted, with_one_less}
 use Rattle.monitor_steps.proofs.Within.{GivesWithin, const_within, copy_within, alu_within, at_within, more_within, end_within, next_within, must_within, psp_within, load_within, load_flash_within, loop_within}
-use Rattle.monitor_model.specs.declared.tables.Tables.{Tables}
 use Rattle.monitor_model.specs.Records.{compartment_at, number_of_slots, nobody}
-use Rattle.monitor_model.specs.Area.{HasTables, region_words, compartment_words}
-use Rattle.monitor_model.specs.Placed.{Placed, IsCompartment}
+use Rattle.monitor_model.specs.Area.{region_words, compartment_words}
+use Rattle.monitor_model.specs.Placed.{IsCompartment}
 use Rattle.monitor_model.specs.BlockWords.{loan_address, loan_end, loan_number, top as top_of}
+use Rattle.monitor_model.specs.Values.{loan_size}
 use Rattle.monitor_program.specs.Constants.{Constants, constants_with}
 use Rattle.monitor_program.specs.MemFault.{loan_turn, scan}
 use Rattle.monitor_laws.proofs.FlashWords.{Has, has_back, has_record}
 use Rattle.monitor_laws.proofs.Tables.{slot_words, record_at, slots_are, behind_head, counts, has_compartment}
-use Rattle.monitor_laws.proofs.Placement.{writable, loans_at_is}
+use Rattle.monitor_laws.proofs.Placement.{writable, loans_at_is, Installed}
 use Rattle.monitor_laws.proofs.Written.{record_of_within}
 use Rattle.monitor_laws.proofs.Off.{core, IsOff, open_while_off}
-use Rattle.monitor_laws.proofs.Opened.{Handles, on_msp, block_load_within}
-use Rattle.monitor_laws.proofs.HandlerRule.{HandlerRule, handlers_reach}
+use Rattle.monitor_laws.proofs.Opened.{on_msp, block_load_within, HandlerPremises}
+use Rattle.monitor_laws.proofs.HandlerRule.{HandlerRule, thread_premises}
 use Rattle.monitor_laws.proofs.HandlerWords.{InStack, frame_load_within}
 use Rattle.monitor_handlers.proofs.Wide.{test_within}
 use Rattle.monitor_handlers.proofs.Lent.{one_or, by_words, hits}
@@ -43,17 +42,19 @@ not_chosen : (b : Bool) → nat_eq (one_or b 0) 1 ≡ false → b ≡ false
 not_chosen true e = absurd (false≢true (sym e))
 not_chosen false e = refl
 
-module _ (i : Image) (t : Tables) (p : Placed i t) (has : HasTables i t) (stub : ℕ) where
+module _ (installed : Installed) where
+  open installed use {image as i, tables as t, placed as p, stub}
+
   -- ---- both masks of a compartment, in flash
 
   pub record HasMasks (cur : ℕ) : Type 0 where
-    pub mask : read 4 (record_at i t (writable i t p has stub) stub cur + 4 * (2 * number_of_slots t + 2)) i.flash ≡ (compartment_at t cur).mask
-    pub reads : read 4 (record_at i t (writable i t p has stub) stub cur + 4 * (2 * number_of_slots t + 3)) i.flash ≡ (compartment_at t cur).reads
-    pub room : record_at i t (writable i t p has stub) stub cur + 4 * (2 * number_of_slots t + 3) + 4 ≤ length i.flash
+    pub mask : read 4 (record_at i t (writable installed) stub cur + 4 * (2 * number_of_slots t + 2)) i.flash ≡ (compartment_at t cur).mask
+    pub reads : read 4 (record_at i t (writable installed) stub cur + 4 * (2 * number_of_slots t + 3)) i.flash ≡ (compartment_at t cur).reads
+    pub room : record_at i t (writable installed) stub cur + 4 * (2 * number_of_slots t + 3) + 4 ≤ length i.flash
 
   pub has_masks : (cur : ℕ) → cur < length t.comps → HasMasks cur
   has_masks cur lt =
-      let w = writable i t p has stub in
+      let w = writable installed in
       let c = compartment_at t cur in
       let o : ℕ = record_at i t w stub cur in
       let all : Has i o (compartment_words c) = has_record i compartment_words (2 * number_of_slots t + 4) t.comps nobody (4096 + 32) (counts i t w stub) (behind_head i t w stub) cur lt in
@@ -81,8 +82,10 @@ module _ (i : Image) (t : Tables) (p : Placed i t) (has : HasTables i t) (stub :
     abbrev block : ℕ
     block = t.monitor - i.ram_base
 
-    handles : Handles i t (top_of i t thread.ram) (HandlerRule i t thread)
-    handles = handlers_reach i t thread p
+    abbrev premises : HandlerPremises
+    premises = thread_premises installed thread Good good
+
+    open premises use {handles}
 
     -- a word of the loan numbered d
     loan_load_within : (d off x : ℕ) {n to b : ℕ} {s : PrivilegedSteps} {ks : List PrivilegedSteps} {c : Core} {Q : Outcome → Type 0} → IsOff true c.protection → low_register c b ≡ t.monitor + (160 + 12 * d) → d < 32 → off < 3 → x ≡ 160 + 12 * d + 4 * off →
@@ -121,7 +124,7 @@ module _ (i : Image) (t : Tables) (p : Placed i t) (has : HasTables i t) (stub :
         After n o = (d : Core) × (o ≡ Went d) × Scanning n (with_one_less 3 d)
 
         tail_within : (n v0 v1 v2 v7 d : ℕ) → d + suc n ≡ count → v2 ≡ t.monitor + (160 + 12 * d) → v7 ≡ hits i t m mask a w (suc d) →
-            W 6 (Const 0 12 (Alu Add 2 2 0 End)) [] (core msp psp q u m v0 v1 v2 (suc n) a mask w v7) (After n)
+            W 6 (Const 0 loan_size ▸ Alu Add 2 2 0 ▸ End) [] (core msp psp q u m v0 v1 v2 (suc n) a mask w v7) (After n)
         tail_within n v0 v1 v2 v7 d al at h =
             const_within (alu_within (λ y ey. end_within (
               _,
@@ -140,7 +143,7 @@ module _ (i : Image) (t : Tables) (p : Placed i t) (has : HasTables i t) (stub :
             less : n < 32
             less = omega (arith, al, few)
 
-            further : (y : ℕ) → y ≡ Rattle.base_words.specs.Arithmetic.add v2 12 → y ≡ t.monitor + (160 + 12 * suc d)
+            further : (y : ℕ) → y ≡ add v2 12 → y ≡ t.monitor + (160 + 12 * suc d)
             further y e = let b = p.block_inside.1 in let r = p.rules.ram_highest in let z = p.rules.ram_most in omega (arith, e, at, al, few, b, r, z)
 
         turn_within : (n : ℕ) (c : Core) → Scanning (suc n) c → W 42 loan_turn [] c (After n)
@@ -188,9 +191,9 @@ module _ (i : Image) (t : Tables) (p : Placed i t) (has : HasTables i t) (stub :
             one_is h k l j = rw (h, k, l, j) refl
 
         -- the whole loop
-        loans_within : {b : ℕ} {s : PrivilegedSteps} {ks : List PrivilegedSteps} {Q : Outcome → Type 0} (a0 a1 a2 : ℕ) → a2 ≡ t.monitor + 160 → ((v0 v1 v2 : ℕ) → W b s ks (core msp psp q u m v0 v1 v2 0 a mask w (hits i t m mask a w count)) Q) →
+        loans_within : {b : ℕ} {s : PrivilegedSteps} {ks : List PrivilegedSteps} {Q : Outcome → Type 0} {a0 a1 a2 : ℕ} → a2 ≡ t.monitor + 160 → ((v0 v1 v2 : ℕ) → W b s ks (core msp psp q u m v0 v1 v2 0 a mask w (hits i t m mask a w count)) Q) →
             W (46 * count + 3 + b) (Repeat 3 32 loan_turn s) ks (core msp psp q u m a0 a1 a2 count a mask w 0) Q
-        loans_within {b} {s} {ks} {Q} a0 a1 a2 e f =
+        loans_within {b} {s} {ks} {Q} {a0} {a1} {a2} e f =
             loop_within Scanning (λ n. 42) (λ n. 46 * n + 3) count (omega arith) (λ n. omega arith) (λ n c r. ap (λ c. low_register c 3) r.is) (λ n c r. turn_within n c r) few
             (record { done = 0; all_of = none; v0 = a0; v1 = a1; v2 = a2; at = no_more; is = refl })
             (λ d r. at_within (r.is ∙ ap (λ x. core msp psp q u m r.v0 r.v1 r.v2 0 a mask w (hits i t m mask a w x)) (all_done r.done r.all_of)) (f r.v0 r.v1 r.v2))
@@ -205,50 +208,50 @@ module _ (i : Image) (t : Tables) (p : Placed i t) (has : HasTables i t) (stub :
             no_more = omega (arith, e)
 
       -- the scan, by a mask in flash: it halts where no loan holds the access
-      pub scan_within : (o top cur field code mask a count : ℕ) (lent : Bool) {b : ℕ} {s : PrivilegedSteps} {ks : List PrivilegedSteps} {Q : Outcome → Type 0} (q : ProtectionState) (m : List ℕ) (a2 a3 a4 a5 w a7 : ℕ) → IsOff true q → psp ≡ i.ram_base + o → InStack i t o top → i.ram_base + (o + 32) ≤ top_of i t thread.ram → read 4 (block + 4) m ≡ top →
-          read 4 (block + 0) m ≡ cur → cur < length t.comps → read 4 (record_at i t (writable i t p has stub) stub cur + 4 * field) i.flash ≡ mask → record_at i t (writable i t p has stub) stub cur + 4 * field + 4 ≤ length i.flash →
+      pub scan_within : (o top cur field code mask a count : ℕ) (lent : Bool) {b : ℕ} {s : PrivilegedSteps} {ks : List PrivilegedSteps} {Q : Outcome → Type 0} {q : ProtectionState} {m : List ℕ} {a2 a3 a4 a5 : ℕ} (w : ℕ) {a7 : ℕ} → IsOff true q → psp ≡ i.ram_base + o → InStack i t o top → i.ram_base + (o + 32) ≤ top_of i t thread.ram → read 4 (block + 4) m ≡ top →
+          read 4 (block + 0) m ≡ cur → cur < length t.comps → read 4 (record_at i t (writable installed) stub cur + 4 * field) i.flash ≡ mask → record_at i t (writable installed) stub cur + 4 * field + 4 ≤ length i.flash →
           read 4 (o + 4) m ≡ a → read 4 (block + 12) m ≡ count → count ≤ 32 → hits i t m mask a w count ≡ one_or lent 0 →
           (lent ≡ false → (d : Core) → d.ram ≡ m → Q (Halted code d)) →
           (lent ≡ true → (v1 v2 v7 : ℕ) → W b s ks (core msp psp q u m psp v1 v2 0 a mask w v7) Q) →
           W (1540 + b) (scan k field code s) ks (core msp psp q u m psp k.block a2 a3 a4 a5 w a7) Q
-      scan_within o top cur field code mask a count lent {b} {s} {ks} {Q} q m a2 a3 a4 a5 w a7 off ep io below et ec inside em room ea en few he refuse go =
+      scan_within o top cur field code mask a count lent {b} {s} {ks} {Q} {q} {m} {a3} {a4} w {a7} off ep io below et ec inside em room ea en few he refuse go =
           more_within
-          (copy_within (block_load_within i t p has stub Good (HandlerRule i t thread) handles good 0 off refl refl (λ x5 e5.
+          (copy_within (block_load_within premises 0 off refl refl (λ x5 e5.
           at_within (ap (λ x. core msp psp q u m psp k.block w a3 a4 x w a7) (e5 ∙ ec))
-          (record_of_within i p.rules k Good (HandlerRule i t thread) true handles.plain good msp psp u cur (record_at i t (writable i t p has stub) stub cur) q m psp k.block w a3 a4 w a7 slots_least slots_most small at_record low_flash (λ v6 v7 e6.
-          load_flash_within p.rules (record_at i t (writable i t p has stub) stub cur + 4 * field) {z = Word} (open_while_off q off.control) (at_field v6 e6) flash_al in_flash (handles.plain.flash _ 4 (record_at i t (writable i t p has stub) stub cur + 4 * field) room) (λ y5 f5.
-          copy_within (frame_load_within i t p has stub Good (HandlerRule i t thread) handles good o top 1 off io below ep refl et (λ x4 e4.
-          block_load_within i t p has stub Good (HandlerRule i t thread) handles good 3 off refl refl (λ x3 e3.
+          (record_of_within i p.rules k Good (HandlerRule i t thread) true handles.plain good msp psp u cur (record_at i t (writable installed) stub cur) slots_least slots_most small at_record low_flash (λ v6 v7 e6.
+          load_flash_within p.rules (record_at i t (writable installed) stub cur + 4 * field) {z = Word} (open_while_off q off.control) (at_field v6 e6) flash_al in_flash (handles.plain.flash _ 4 (record_at i t (writable installed) stub cur + 4 * field) room) (λ y5 f5.
+          copy_within (frame_load_within premises o top 1 off io below ep refl et (λ x4 e4.
+          block_load_within premises 3 off refl refl (λ x3 e3.
           const_within (const_within
           (at_within (ap (λ x. core msp psp q u m psp k.block k.loans_at x3 x y5 w 0) (e4 ∙ ea) ∙ ap (λ x. core msp psp q u m psp k.block k.loans_at x a y5 w 0) (e3 ∙ en) ∙ ap (λ x. core msp psp q u m psp k.block k.loans_at count a x w 0) (f5 ∙ em))
-          (loans_within q m a mask w count off few psp k.block k.loans_at (loans_at_is i t p has stub) (λ y0 y1 y2.
+          (loans_within q m a mask w count off few (loans_at_is installed) (λ y0 y1 y2.
           at_within (ap (λ x. core msp psp q u m y0 y1 y2 0 a mask w x) he)
           (const_within (must_within (λ e. refuse (not_chosen lent e) _ refl) (λ e.
           psp_within (on_msp q off.privileged) (go (chosen lent e) y1 y2 _))))))))))))))))) (omega arith)
         where
           slots_are_few : k.slots ≡ number_of_slots t
-          slots_are_few = slots_are i t (writable i t p has stub) stub
+          slots_are_few = slots_are i t (writable installed) stub
 
           slots_least : 4 ≤ k.slots
-          slots_least = let e = slots_are_few in let l = (writable i t p has stub).least in omega (arith, e, l)
+          slots_least = let e = slots_are_few in let l = (writable installed).least in omega (arith, e, l)
 
           slots_most : k.slots ≤ 12
-          slots_most = let e = slots_are_few in let l = (writable i t p has stub).most in omega (arith, e, l)
+          slots_most = let e = slots_are_few in let l = (writable installed).most in omega (arith, e, l)
 
           small : cur < 2 ^ 16
           small = let l = p.most in omega (arith, inside, l)
 
-          at_record : k.compartments_at + (8 * k.slots + 16) * cur ≡ i.flash_base + record_at i t (writable i t p has stub) stub cur
-          at_record = (has_compartment i t (writable i t p has stub) stub cur inside).at
+          at_record : k.compartments_at + (8 * k.slots + 16) * cur ≡ i.flash_base + record_at i t (writable installed) stub cur
+          at_record = (has_compartment i t (writable installed) stub cur inside).at
 
-          low_flash : i.flash_base + record_at i t (writable i t p has stub) stub cur < 2 ^ 31
+          low_flash : i.flash_base + record_at i t (writable installed) stub cur < 2 ^ 31
           low_flash = let x = p.rules.flash_highest in let y = p.rules.flash_most in omega (arith, room, x, y)
 
-          at_field : (v : ℕ) → v ≡ i.flash_base + record_at i t (writable i t p has stub) stub cur → v + 4 * field ≡ i.flash_base + (record_at i t (writable i t p has stub) stub cur + 4 * field)
+          at_field : (v : ℕ) → v ≡ i.flash_base + record_at i t (writable installed) stub cur → v + 4 * field ≡ i.flash_base + (record_at i t (writable installed) stub cur + 4 * field)
           at_field v e = omega (arith, e)
 
-          flash_al : (i.flash_base + (record_at i t (writable i t p has stub) stub cur + 4 * field)) % 4 ≡ 0
-          flash_al = let a = p.rules.flash_aligned in let b = (has_compartment i t (writable i t p has stub) stub cur inside).aligned in omega (arith, a, b)
+          flash_al : (i.flash_base + (record_at i t (writable installed) stub cur + 4 * field)) % 4 ≡ 0
+          flash_al = let a = p.rules.flash_aligned in let b = (has_compartment i t (writable installed) stub cur inside).aligned in omega (arith, a, b)
 
-          in_flash : record_at i t (writable i t p has stub) stub cur + 4 * field < length i.flash
+          in_flash : record_at i t (writable installed) stub cur + 4 * field < length i.flash
           in_flash = omega (arith, room)

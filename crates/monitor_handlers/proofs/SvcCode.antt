@@ -19,7 +19,7 @@ use Rattle.monitor_program.specs.Svc.{svc}
 use Rattle.monitor_program.specs.MemFault.{memfault}
 use Rattle.monitor_program.specs.Reset.{reset}
 use Rattle.monitor_program.specs.CodeSize.{CodeFits}
-use Rattle.monitor_program.specs.Page.{reset_offset, svc_offset, memfault_offset, vectors, bytes_of_words, used_bytes, leave_stub, constants, page, vector_to}
+use Rattle.monitor_program.specs.Page.{reset_offset, svc_offset, memfault_offset, vectors, bytes_of_words, used_bytes, leave_stub, constants, page, vector_to, stub_address}
 use Rattle.monitor_laws.proofs.PageCode.{middle}
 use Rattle.monitor_handlers.proofs.SvcEncoded.{svc_in_table}
 
@@ -80,7 +80,7 @@ module _ (i : Image) (t : Tables) (rules : ObeysRules i) (rest : List ℕ) (has 
           omega (arith, a, b, c, d, x, l)
 
   pub has_svc : k.slots ≤ 12 → CodeIn i (i.flash_base + offset) (code (svc k))
-  has_svc h = bytes_are_code i offset (code (svc k)) rules (svc_in_table (Rattle.monitor_program.specs.Page.stub_address t) t h (let r = room in omega (arith, r))) holds_svc
+  has_svc h = bytes_are_code i offset (code (svc k)) rules (svc_in_table (stub_address t) t h (let r = room in omega (arith, r))) holds_svc
 
   -- ---- the vector
 

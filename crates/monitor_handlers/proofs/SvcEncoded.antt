@@ -5,12 +5,13 @@ use Rattle.machine_thumb.specs.Bytes.{EachInTable}
 use Rattle.monitor_steps.specs.Steps.{names_low}
 use Rattle.monitor_steps.specs.Code.{code_length, code}
 use Rattle.monitor_model.specs.declared.tables.Tables.{Tables}
+use Rattle.monitor_model.specs.Records.{eighth as eighth_of}
 use Rattle.monitor_program.specs.Constants.{Constants, constants_with}
 use Rattle.monitor_program.specs.Opening.{bits_of, tables_of, closed_up}
 use Rattle.monitor_program.specs.Svc.{target_turn, enter, leave, lend, unlend, svc}
 use Rattle.monitor_laws.proofs.Appended.{tables_low}
 use Rattle.monitor_handlers.proofs.Encodable.{Words, words_fit, times_words, regions_words}
-use Rattle.monitor_laws.proofs.Encoded.{fits_fields, in_table}
+use Rattle.monitor_laws.proofs.Encoded.{fits_fields, in_table, tables_fields}
 
 -- ---- the handler
 
@@ -19,7 +20,7 @@ module _ (stub : ℕ) (t : Tables) where
   c = constants_with stub t
 
   eighth : c.eighth < 2 ^ 32
-  eighth = let e = trailing_le 32 (Rattle.monitor_model.specs.Records.eighth t) in omega (arith, e)
+  eighth = let e = trailing_le 32 (eighth_of t) in omega (arith, e)
 
   closed : Words closed_up
   closed = (omega arith, (omega arith, tt))
@@ -49,7 +50,7 @@ module _ (stub : ℕ) (t : Tables) where
   svc_low = let e = tables_low c closed_up in rw e refl
 
   svc_fields : c.slots ≤ 12 → fits_fields (svc c) ≡ true
-  svc_fields h = let e = Rattle.monitor_laws.proofs.Encoded.tables_fields c closed_up h in rw e refl
+  svc_fields h = let e = tables_fields c closed_up h in rw e refl
 
   pub svc_in_table : c.slots ≤ 12 → code_length (svc c) < 2 ^ 16 → EachInTable (code (svc c))
   svc_in_table h l = in_table (svc c) (svc_fields h) (words_fit (svc c) l svc_words)

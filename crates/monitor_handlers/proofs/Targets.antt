@@ -3,7 +3,6 @@ use Rattle.std.proofs.Common.{◌≡◌, ℕ, zero, suc, ◌+◌, ◌-◌, ◌*�
 use Rattle.std.specs.Prelude.{flat_map}
 use Rattle.std.proofs.lemmas.Bool.{leb-true, eqb-true, and_parts as both}
 use Rattle.base_words.specs.Bytes.{read}
-use Rattle.machine_devices.specs.declared.image.Image.{Image}
 use Rattle.machine_bus.specs.Locations.{choose}
 use Rattle.base_laws.specs.Lists.{Each}
 use Rattle.monitor_model.specs.declared.tables.SiteRecord.{SiteRecord}
@@ -11,19 +10,15 @@ use Rattle.monitor_model.specs.declared.tables.TargetRecord.{TargetRecord}
 use Rattle.monitor_model.specs.declared.tables.Tables.{Tables}
 use Rattle.monitor_model.specs.Records.{number_of_slots, targets_of, last_with_entry, or_this}
 use Rattle.monitor_model.specs.Layout.{head_at, sites_at, targets_at}
-use Rattle.monitor_model.specs.Area.{HasTables, compartment_words, site_words, target_words, head, area}
+use Rattle.monitor_model.specs.Area.{compartment_words, site_words, target_words, head, area}
 use Rattle.monitor_model.specs.Checks.{must, and_then, each_record, is_site, is_target, is_entry, sites_fail}
-use Rattle.monitor_model.specs.Placed.{Placed, IsEntry}
+use Rattle.monitor_model.specs.Placed.{IsEntry}
 use Rattle.monitor_program.specs.Constants.{Constants, constants_with}
 use Rattle.monitor_laws.proofs.Checked.{must_none, and_none}
 use Rattle.monitor_laws.proofs.FlashWords.{Has, flash_has, has_front, has_back, has_record, records_length}
 use Rattle.monitor_laws.proofs.Numbers.{product}
 use Rattle.monitor_laws.proofs.Tables.{counts, three_words, two_words}
-use Rattle.monitor_laws.proofs.Placement.{writable}
-use Rattle.machine_model.specs.declared.state.ProtectionState.{ProtectionState}
-use Rattle.monitor_steps.specs.Safe.{Rule}
-use Rattle.monitor_laws.proofs.Off.{IsOff}
-use Rattle.monitor_laws.proofs.Opened.{Handles}
+use Rattle.monitor_laws.proofs.Placement.{writable, Installed}
 use Rattle.monitor_laws.proofs.EnterTarget.{chosen, HasTargets}
 use Rattle.base_laws.proofs.Lists.{each_drop, each_take}
 
@@ -124,7 +119,9 @@ length_dropped xs zero c h = omega (arith, h)
 length_dropped [] (suc n) c h = absurd (omega (arith, h))
 length_dropped (x ∷ xs) (suc n) c h = length_dropped xs n c (omega (arith, h))
 
-module _ (i : Image) (t : Tables) (p : Placed i t) (has : HasTables i t) (stub : ℕ) where
+module _ (installed : Installed) where
+  open installed use {image as i, tables as t, placed as p, has_tables as has, stub}
+
   abbrev k : Constants
   k = constants_with stub t
 
@@ -144,7 +141,7 @@ module _ (i : Image) (t : Tables) (p : Placed i t) (has : HasTables i t) (stub :
 
   targets_at_is : (n : ℕ) → n < length t.targets → k.targets_at ≡ i.flash_base + targets_offset
   targets_at_is n lt =
-      let c = records_length compartment_words (2 * number_of_slots t + 4) t.comps (counts i t (writable i t p has stub) stub) in
+      let c = records_length compartment_words (2 * number_of_slots t + 4) t.comps (counts i t (writable installed) stub) in
       let s = records_length site_words 3 t.sites (three_words t.sites) in
       let m = product (number_of_slots t) (length t.comps) in
       let e = p.tables_first in
@@ -161,8 +158,8 @@ module _ (i : Image) (t : Tables) (p : Placed i t) (has : HasTables i t) (stub :
     last_in : s.first + (s.count - 1) < length t.targets
     last_in = let a = f.some in let b = f.inside in omega (arith, a, b)
 
-    pub site_targets : (Good : ProtectionState → Type 0) (Allowed : Rule) {entry_top : ℕ} (handles : Handles i t entry_top Allowed) (good : (q : ProtectionState) → IsOff true q → Good q) → HasTargets i t p has stub Good Allowed handles good s.first s.count to
-    site_targets Good Allowed handles good = record {
+    pub site_targets : HasTargets installed s.first s.count to
+    site_targets = record {
       at = let e = targets_at_is (s.first + (s.count - 1)) last_in in omega (arith, e);
       first_low = let x = (has_target (s.first + (s.count - 1)) last_in).1 in let r = p.rules.flash_most in omega (arith, x, r);
       aligned = let e = p.tables_first in omega (arith, e);

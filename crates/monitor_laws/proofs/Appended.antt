@@ -1,10 +1,12 @@
 -- A list with another behind it, and its code.
-use Rattle.std.proofs.Common.{◌≡◌, ℕ, zero, suc, ◌+◌, Bool, true, false, List, [], ◌∷◌, ◌++◌, refl, sym, ap, ◌∙◌, append_assoc}
+use Rattle.std.proofs.Common.{◌≡◌, ℕ, zero, suc, ◌+◌, Bool, true, false, List, [], ◌∷◌, ◌++◌, refl, sym, ap, ◌∙◌, append_assoc, pos, negsuc}
 use Rattle.machine_thumb.specs.declared.table.Instr.TheVariants.{DataImmediate, BranchWide}
-use Rattle.monitor_steps.specs.Steps.{PrivilegedSteps, End, Const, Copy, Load, Store, Alu, ReadPsp, WritePsp, WriteControl, Test, Repeat, Halt, Return, Go, names_low}
+use Rattle.monitor_steps.specs.Steps.{PrivilegedSteps, End, Const, Copy, Load, Store, Alu, ReadPsp, WritePsp, WriteControl, Test, Repeat, Halt, Return, Go, names_low, ◌▸◌}
 use Rattle.monitor_steps.specs.Code.{operation_code, code_length, code}
 use Rattle.monitor_program.specs.Constants.{Constants}
-use Rattle.monitor_program.specs.Opening.{times, bits_of, regions, record_of, stack_region, tables_of}
+use Rattle.monitor_program.specs.Opening.{times, bits_of, regions, record_of, stack_region, tables_of, region}
+use Rattle.monitor_model.specs.Offsets.{record_code}
+use Rattle.machine_protection.specs.declared.TheConstants.{MPU_RBAR}
 
 -- s, and behind it r
 abbrev pub followed_by : (s r : PrivilegedSteps) → PrivilegedSteps
@@ -36,11 +38,11 @@ code_followed (WriteControl from k) r = rw (code_followed k r) refl
 code_followed (Test c a b y n k) r =
     let e = code_followed k r in
     let p = append_assoc (code n) (code k) (code r) in
-    let q = append_assoc (code y) (BranchWide (Rattle.std.proofs.Common.pos (code_length n)) ∷ (code n ++ code k)) (code r) in
+    let q = append_assoc (code y) (BranchWide (pos (code_length n)) ∷ (code n ++ code k)) (code r) in
     rw (e, q, p) refl
 code_followed (Repeat left most body k) r =
     let e = code_followed k r in
-    let q = append_assoc (code body) (DataImmediate 3 left 1 ∷ BranchWide (Rattle.std.proofs.Common.negsuc (code_length body + 13)) ∷ code k) (code r) in
+    let q = append_assoc (code body) (DataImmediate 3 left 1 ∷ BranchWide (negsuc (code_length body + 13)) ∷ code k) (code r) in
     rw (e, q) refl
 code_followed (Halt n k) r = rw (code_followed k r) refl
 code_followed (Return k) r = rw (code_followed k r) refl
@@ -61,7 +63,7 @@ record_followed c k r = ap (λ s. Const 6 0 s) (times_followed 6 5 (bits_of 4 (c
 pub tables_followed : (c : Constants) (k r : PrivilegedSteps) → followed_by (tables_of c k) r ≡ tables_of c (followed_by k r)
 tables_followed c k r =
     record_followed c _ r
-    ∙ ap (λ s. record_of c (Const 0 Rattle.machine_protection.specs.declared.TheConstants.MPU_RBAR (regions 1 0 (stack_region c s)))) (regions_followed c.slots 2 k r)
+    ∙ ap (λ s. record_of c ▸ Const 0 MPU_RBAR ▸ region record_code ▸ stack_region c ▸ s) (regions_followed c.slots 2 k r)
 
 -- they name r0 to r7
 pub times_low : (bs : List Bool) (k : PrivilegedSteps) → names_low (times 6 5 bs k) ≡ names_low k

@@ -15,8 +15,9 @@ use Rattle.monitor_steps.specs.declared.steps.PrivilegedCond.TheVariants.{Eq, Ul
 use Rattle.monitor_steps.specs.Steps.{PrivilegedSteps, End, Const, Copy, Load, Store, Alu, ReadPsp, WritePsp, WriteControl, Test, Repeat, Halt, Return, Go, is_low}
 use Rattle.monitor_steps.specs.Code.{load_op, store_op, condition_number, by_moves, operation_code, code_length, code}
 use Rattle.monitor_model.specs.declared.tables.Tables.{Tables}
+use Rattle.monitor_model.specs.Records.{eighth as eighth_of}
 use Rattle.monitor_program.specs.Constants.{Constants, constants_with}
-use Rattle.monitor_program.specs.Opening.{times, bits_of, regions, tables_of}
+use Rattle.monitor_program.specs.Opening.{times, bits_of, regions, tables_of, stack_region}
 use Rattle.monitor_program.specs.Reset.{init_turn, thread_ready, to_main}
 use Rattle.monitor_laws.proofs.ResetList.{before_control}
 use Rattle.machine_thumb.proofs.Codes.{in_table-append as each_append}
@@ -199,7 +200,7 @@ before_control_in stub t h = in_table (before_control c) (tables_fields c (threa
     c = constants_with stub t
 
     eighth : c.eighth < 2 ^ 32
-    eighth = let e = trailing_le 32 (Rattle.monitor_model.specs.Records.eighth t) in omega (arith, e)
+    eighth = let e = trailing_le 32 (eighth_of t) in omega (arith, e)
 
     offset_back : (n : ℕ) → IsOffset (2 ^ 24) (negsuc n) → IsOffset (2 ^ 24) (negsuc n)
     offset_back n h = h
@@ -207,7 +208,7 @@ before_control_in stub t h = in_table (before_control c) (tables_fields c (threa
     last : Fits (thread_ready c End)
     last = (omega arith, (omega arith, (omega arith, (omega arith, (omega arith, (omega arith, tt))))))
 
-    stack : Fits (Rattle.monitor_program.specs.Opening.stack_region c (regions c.slots 2 (thread_ready c End)))
+    stack : Fits (stack_region c (regions c.slots 2 (thread_ready c End)))
     stack = (omega arith, (eighth, (omega arith, (omega arith, (omega arith, (omega arith, (omega arith, regions_fit c.slots 2 (thread_ready c End) last)))))))
 
     tables : Fits (tables_of c (thread_ready c End))

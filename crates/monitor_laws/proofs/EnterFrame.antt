@@ -4,26 +4,21 @@ use Rattle.std.proofs.lemmas.Bool.Decides.{nat_tests}
 use Rattle.base_words.specs.Arithmetic.{subtract}
 use Rattle.base_words.specs.declared.memory.Width.TheVariants.{Word}
 use Rattle.base_words.specs.Bytes.{read, write}
-use Rattle.machine_devices.specs.declared.image.Image.{Image}
 use Rattle.machine_model.specs.declared.state.ProtectionState.{ProtectionState}
 use Rattle.machine_model.specs.declared.state.FaultStatus.{FaultStatus}
 use Rattle.machine_model.specs.State.{by_mpu}
 use Rattle.monitor_steps.specs.Steps.{PrivilegedSteps, Store}
 use Rattle.monitor_steps.specs.Core.{Core, low_register, with_ram}
 use Rattle.monitor_steps.specs.Effect.{Outcome}
-use Rattle.monitor_steps.specs.Safe.{Rule}
 use Rattle.monitor_steps.proofs.Gives.{word_fits}
 use Rattle.monitor_steps.proofs.Within.{GivesWithin, const_within, alu_within, at_within, more_within}
-use Rattle.monitor_model.specs.declared.tables.Tables.{Tables}
-use Rattle.monitor_model.specs.Area.{HasTables}
-use Rattle.monitor_model.specs.Placed.{Placed}
 use Rattle.monitor_program.specs.Constants.{Constants, constants_with}
 use Rattle.monitor_program.specs.Svc.{frame}
 use Rattle.monitor_laws.proofs.Off.{core, IsOff}
-use Rattle.monitor_laws.proofs.Opened.{Handles}
 use Rattle.monitor_laws.proofs.Placement.{writable}
 use Rattle.monitor_laws.proofs.HandlerWords.{Changed, changed_in, changed_none, InStack, apart_from_block, frame_load_within, frame_store_within}
 use Rattle.monitor_laws.proofs.LeaveWords.{beside, stored}
+use Rattle.monitor_laws.proofs.Opened.{HandlerPremises}
 
 -- the callee's frame at offset fo, of the caller's at offset o
 pub record Framed (link o fo entry : ℕ) (old new : List ℕ) : Type 0 where
@@ -129,7 +124,9 @@ framed link o fo entry m m1 m2 m3 m4 m5 m6 m7 m8 v0 v1 v2 v3 apart room small lo
     far2 : (a : ℕ) → o ≤ a → read 4 a m2 ≡ read 4 a m
     far2 a h = beside a (fo + 4) v1 m1 m2 s.w2 (inr (omega (arith, h, apart))) ∙ far1 a h
 
-module _ (i : Image) (t : Tables) (p : Placed i t) (has : HasTables i t) (stub : ℕ) (Good : ProtectionState → Type 0) (Allowed : Rule) {entry_top : ℕ} (handles : Handles i t entry_top Allowed) (good : (q : ProtectionState) → IsOff true q → Good q) where
+module _ (premises : HandlerPremises) where
+  open premises use {installed, installed.{image as i, tables as t, placed as p, has_tables as has, stub}, Good, Allowed, entry_top}
+
   abbrev k : Constants
   k = constants_with stub t
 
@@ -143,32 +140,32 @@ module _ (i : Image) (t : Tables) (p : Placed i t) (has : HasTables i t) (stub :
   kept_store_within : (o top off : ℕ) {n from b : ℕ} {s : PrivilegedSteps} {ks : List PrivilegedSteps} {c : Core} {Q : Outcome → Type 0} → IsOff true c.protection → InStack i t o top → low_register c b ≡ i.ram_base + o → nat_lt off 8 ≡ true → read 4 (here + 4) c.ram ≡ top →
       ((m : List ℕ) → m ≡ write 4 (o + 4 * off) (low_register c from) c.ram → length m ≡ length c.ram → read 4 (here + 4) m ≡ top → W n s ks (with_ram c m) Q) → W (1 + n) (Store Word from b off s) ks c Q
   kept_store_within o top off {from = from} {b = b} {c = c} q io e h et f =
-      frame_store_within i t p has stub Good Allowed handles good o top off q io e h et (λ m w z. f m w z (beside (here + 4) (o + 4 * off) (low_register c from) c.ram m w (away off h) ∙ et))
+      frame_store_within premises o top off q io e h et (λ m w z. f m w z (beside (here + 4) (o + 4 * off) (low_register c from) c.ram m w (away off h) ∙ et))
     where
       away : (off : ℕ) → nat_lt off 8 ≡ true → (here + 4 + 4 ≤ o + 4 * off) ⊎ (o + 4 * off + 4 ≤ here + 4)
       away off h =
           let z : off < 8 = grind (arith, nat_tests, h) in
           ⊎_elim (λ x. inl (omega (arith, x))) (λ x. inr (omega (arith, x, z))) (apart_from_block i t o top p io)
 
-  module _ (msp psp : ℕ) (u : FaultStatus) where
+  module _ {msp psp : ℕ} {u : FaultStatus} where
     -- the new TOP is behind the frame at offset fo; the entry has bit 0 set in the caller's r12
-    pub frame_within : (o fo top entry new_top : ℕ) {b : ℕ} {s : PrivilegedSteps} {ks : List PrivilegedSteps} {Q : Outcome → Type 0} (q : ProtectionState) (m : List ℕ) (a1 a2 a4 a5 a6 a7 : ℕ) → IsOff true q → psp ≡ i.ram_base + o → InStack i t o top → i.ram_base + (o + 32) ≤ entry_top → InStack i t fo top → fo + 32 ≤ o → new_top ≡ i.ram_base + (fo + 32) → read 4 (here + 4) m ≡ top → read 4 (o + 16) m ≡ entry + 1 → k.stub_entry < 2 ^ 32 → length m ≡ i.ram_size →
+    pub frame_within : (o fo top entry new_top : ℕ) {b : ℕ} {s : PrivilegedSteps} {ks : List PrivilegedSteps} {Q : Outcome → Type 0} {q : ProtectionState} {m : List ℕ} {a1 a2 a4 a5 a6 a7 : ℕ} → IsOff true q → psp ≡ i.ram_base + o → InStack i t o top → i.ram_base + (o + 32) ≤ entry_top → InStack i t fo top → fo + 32 ≤ o → new_top ≡ i.ram_base + (fo + 32) → read 4 (here + 4) m ≡ top → read 4 (o + 16) m ≡ entry + 1 → k.stub_entry < 2 ^ 32 → length m ≡ i.ram_size →
         ((m8 : List ℕ) → Framed k.stub_entry o fo entry m m8 → W b s ks (core msp psp q u m8 psp a1 1 new_top a4 a5 (i.ram_base + fo) 0x01000000) Q) → W (33 + b) (frame k s) ks (core msp psp q u m psp a1 a2 new_top a4 a5 a6 a7) Q
-    frame_within o fo top entry new_top {b} {s} {ks} {Q} q m a1 a2 a4 a5 a6 a7 off ep io below jo apart et3 et ee small zm f =
+    frame_within o fo top entry new_top {b} {s} {ks} {Q} {q} {m} {a1} {a4} {a5} off ep io below jo apart et3 et ee small zm f =
         more_within
         (const_within (alu_within (λ x ex.
         let xe : x ≡ i.ram_base + fo = frame_at_is x ex in
-        frame_load_within i t p has stub Good Allowed handles good o top 0 off io below ep refl et (λ v0 e0.
+        frame_load_within premises o top 0 off io below ep refl et (λ v0 e0.
         kept_store_within fo top 0 off jo xe refl et (λ m1 w1 z1 t1.
-        frame_load_within i t p has stub Good Allowed handles good o top 1 off io below ep refl t1 (λ v1 e1.
+        frame_load_within premises o top 1 off io below ep refl t1 (λ v1 e1.
         kept_store_within fo top 1 off jo xe refl t1 (λ m2 w2 z2 t2.
-        frame_load_within i t p has stub Good Allowed handles good o top 2 off io below ep refl t2 (λ v2 e2.
+        frame_load_within premises o top 2 off io below ep refl t2 (λ v2 e2.
         kept_store_within fo top 2 off jo xe refl t2 (λ m3 w3 z3 t3.
-        frame_load_within i t p has stub Good Allowed handles good o top 3 off io below ep refl t3 (λ v3 e3.
+        frame_load_within premises o top 3 off io below ep refl t3 (λ v3 e3.
         kept_store_within fo top 3 off jo xe refl t3 (λ m4 w4 z4 t4.
         const_within (kept_store_within fo top 4 off jo xe refl t4 (λ m5 w5 z5 t5.
         const_within (kept_store_within fo top 5 off jo xe refl t5 (λ m6 w6 z6 t6.
-        frame_load_within i t p has stub Good Allowed handles good o top 4 off io below ep refl t6 (λ v7 e7.
+        frame_load_within premises o top 4 off io below ep refl t6 (λ v7 e7.
         const_within (alu_within (λ y ey.
         let ye : y ≡ entry = entry_is v7 y (e7 ∙ far m m1 m2 m3 m4 m5 m6 v0 v1 v2 v3 w1 w2 w3 w4 w5 w6 ∙ ee) ey in
         kept_store_within fo top 6 off jo xe refl t6 (λ m7 w7 z7 t7.
@@ -180,7 +177,7 @@ module _ (i : Image) (t : Tables) (p : Placed i t) (has : HasTables i t) (stub :
         low = let f = word_fits (o + 16) m in omega (arith, ee, f)
 
         inside : i.ram_base + (o + 32) ≤ i.ram_base + i.ram_size
-        inside = let h = io.high in let e = io.ends in let a = (writable i t p has stub).stack_inside.1 in omega (arith, h, e, a)
+        inside = let h = io.high in let e = io.ends in let a = (writable installed).stack_inside.1 in omega (arith, h, e, a)
 
         frame_at_is : (x : ℕ) → x ≡ subtract new_top 32 → x ≡ i.ram_base + fo
         frame_at_is x e = let h = inside in let r = p.rules.ram_highest in let z = p.rules.ram_most in omega (arith, e, et3, h, apart, r, z)

@@ -3,24 +3,19 @@ use Rattle.std.proofs.Common.{◌≡◌, ◌≢◌, ℕ, zero, suc, ◌+◌, ◌
 use Rattle.std.proofs.Math.Nat.{div-mul-le_self}
 use Rattle.std.proofs.lemmas.Bool.{eqb-true}
 use Rattle.base_words.specs.Arithmetic.{add, subtract, shift_left}
-use Rattle.machine_devices.specs.declared.image.Image.{Image}
 use Rattle.machine_model.specs.declared.state.ProtectionState.{ProtectionState}
 use Rattle.machine_model.specs.declared.state.FaultStatus.{FaultStatus}
 use Rattle.machine_model.specs.State.{by_mpu}
 use Rattle.monitor_steps.specs.Steps.{PrivilegedSteps}
 use Rattle.monitor_steps.specs.Core.{Core}
 use Rattle.monitor_steps.specs.Effect.{Outcome, Halted}
-use Rattle.monitor_steps.specs.Safe.{Rule}
 use Rattle.monitor_steps.proofs.Within.{GivesWithin, const_within, alu_within, at_within, more_within, must_not_within}
-use Rattle.monitor_model.specs.declared.tables.Tables.{Tables}
 use Rattle.monitor_model.specs.Records.{stack_end, eighth, rounded as rounded_down}
-use Rattle.monitor_model.specs.Area.{HasTables}
-use Rattle.monitor_model.specs.Placed.{Placed}
 use Rattle.monitor_program.specs.Constants.{Constants, constants_with}
 use Rattle.monitor_program.specs.Svc.{rounded}
 use Rattle.monitor_laws.proofs.Numbers.{shr_by}
 use Rattle.monitor_laws.proofs.Off.{core}
-use Rattle.monitor_laws.proofs.Opened.{eq_false}
+use Rattle.monitor_laws.proofs.Opened.{eq_false, HandlerPremises}
 use Rattle.monitor_laws.proofs.Placement.{writable}
 use Rattle.monitor_laws.proofs.Tables.{StackSize, stack_size}
 
@@ -33,7 +28,9 @@ shl_by x e y h lt small =
     let b : x * 2 ^ e % 2 ^ 32 ≡ x * 2 ^ e = omega (arith, small) in
     a ∙ b
 
-module _ (i : Image) (t : Tables) (p : Placed i t) (has : HasTables i t) (stub : ℕ) (Good : ProtectionState → Type 0) (Allowed : Rule) where
+module _ (premises : HandlerPremises) where
+  open premises use {installed, installed.{image as i, tables as t, placed as p, stub}, Good, Allowed}
+
   abbrev k : Constants
   k = constants_with stub t
 
@@ -41,15 +38,15 @@ module _ (i : Image) (t : Tables) (p : Placed i t) (has : HasTables i t) (stub :
   W n s ks c Q = GivesWithin by_mpu i Good Allowed n s ks c Q
 
   size_is : StackSize t.stack.size
-  size_is = stack_size t.stack.size (writable i t p has stub).stack_size
+  size_is = stack_size t.stack.size (writable installed).stack_size
 
-  module _ (msp psp : ℕ) (u : FaultStatus) where
+  module _ {msp psp : ℕ} {u : FaultStatus} where
     -- of a frame in the stack
-    pub rounded_within : {b : ℕ} {s : PrivilegedSteps} {ks : List PrivilegedSteps} {Q : Outcome → Type 0} (q : ProtectionState) (m : List ℕ) (a1 a3 a4 a5 a6 a7 : ℕ) → t.stack.base ≤ psp → psp ≤ stack_end t →
+    pub rounded_within : {b : ℕ} {s : PrivilegedSteps} {ks : List PrivilegedSteps} {Q : Outcome → Type 0} {q : ProtectionState} {m : List ℕ} {a1 a3 a4 a5 a6 a7 : ℕ} → t.stack.base ≤ psp → psp ≤ stack_end t →
         ((d : Core) → d.ram ≡ m → rounded_down t psp ≡ t.stack.base → Q (Halted 5 d)) →
         (0 < (psp - t.stack.base) / eighth t → W b s ks (core msp psp q u m psp a1 k.stack (rounded_down t psp) a4 a5 0 a7) Q) →
         W (25 + b) (rounded k s) ks (core msp psp q u m psp a1 k.stack a3 a4 a5 a6 a7) Q
-    rounded_within {b} {s} {ks} {Q} q m a1 a3 a4 a5 a6 a7 lo hi refuse f =
+    rounded_within {b} {s} {ks} {Q} {q} {m} {a1} {a4} {a5} {a7} lo hi refuse f =
         more_within
         (alu_within (λ d ed.
         let de : d ≡ psp - t.stack.base = distance d ed in
@@ -63,10 +60,10 @@ module _ (i : Image) (t : Tables) (p : Placed i t) (has : HasTables i t) (stub :
         at_within (ap (λ n. core msp psp q u m psp a1 k.stack n a4 a5 0 a7) (sum_is n y en ye)) (f (some y ye (eq_false _ _ z))))))))))) (omega arith)
       where
         stack_is : k.stack ≡ t.stack.base
-        stack_is = let a = (writable i t p has stub).stack_inside.1 in let x = p.rules.ram_highest in let y = p.rules.ram_most in omega (arith, a, x, y)
+        stack_is = let a = (writable installed).stack_inside.1 in let x = p.rules.ram_highest in let y = p.rules.ram_most in omega (arith, a, x, y)
 
         high : stack_end t < 2 ^ 32
-        high = let a = (writable i t p has stub).stack_inside.1 in let x = p.rules.ram_highest in let y = p.rules.ram_most in omega (arith, a, x, y)
+        high = let a = (writable installed).stack_inside.1 in let x = p.rules.ram_highest in let y = p.rules.ram_most in omega (arith, a, x, y)
 
         low256 : k.eighth < 256
         low256 = let e = size_is.exponent in omega (arith, e)

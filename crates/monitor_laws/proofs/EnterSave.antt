@@ -9,17 +9,15 @@ use Rattle.machine_model.specs.State.{by_mpu}
 use Rattle.monitor_steps.specs.Steps.{PrivilegedSteps}
 use Rattle.monitor_steps.specs.Core.{Core}
 use Rattle.monitor_steps.specs.Effect.{Outcome}
-use Rattle.monitor_steps.specs.Safe.{Rule}
 use Rattle.monitor_steps.proofs.Gives.{word_fits}
 use Rattle.monitor_steps.proofs.Within.{GivesWithin, const_within, copy_within, alu_within, at_within, more_within}
 use Rattle.monitor_model.specs.declared.tables.Tables.{Tables}
-use Rattle.monitor_model.specs.Area.{HasTables}
 use Rattle.monitor_model.specs.Placed.{Placed}
 use Rattle.monitor_program.specs.Constants.{Constants, constants_with}
 use Rattle.monitor_program.specs.Svc.{raise, save, entered}
 use Rattle.monitor_laws.proofs.Numbers.{shl4}
 use Rattle.monitor_laws.proofs.Off.{core, IsOff}
-use Rattle.monitor_laws.proofs.Opened.{Handles, block_load_within, block_store_within, on_msp}
+use Rattle.monitor_laws.proofs.Opened.{block_load_within, block_store_within, on_msp, HandlerPremises}
 use Rattle.monitor_laws.proofs.HandlerWords.{write_psp_within, Changed, changed_in, changed_none, InStack, entry_store_within, frame_load_within, frame_store_within}
 use Rattle.monitor_laws.proofs.LeaveWords.{beside, stored, entry_is, whole_word}
 
@@ -102,7 +100,9 @@ module _ (i : Image) (t : Tables) (p : Placed i t) where
           let c3 = changed_in lo hi (block + 4) top m m2 m3 c2 (omega arith) (omega arith) w3 in
           changed_in lo hi (block + 16) v m m3 m4 c3 (omega arith) (omega arith) w4
 
-module _ (i : Image) (t : Tables) (p : Placed i t) (has : HasTables i t) (stub : ℕ) (Good : ProtectionState → Type 0) (Allowed : Rule) {entry_top : ℕ} (handles : Handles i t entry_top Allowed) (good : (q : ProtectionState) → IsOff true q → Good q) where
+module _ (premises : HandlerPremises) where
+  open premises use {installed, installed.{image as i, tables as t, placed as p, stub}, Good, Allowed, entry_top}
+
   abbrev k : Constants
   k = constants_with stub t
 
@@ -112,57 +112,57 @@ module _ (i : Image) (t : Tables) (p : Placed i t) (has : HasTables i t) (stub :
   abbrev here : ℕ
   here = t.monitor - i.ram_base
 
-  module _ (msp psp : ℕ) (u : FaultStatus) where
+  module _ {msp psp : ℕ} {u : FaultStatus} where
     -- the return address rises by 2
-    pub raise_within : (o top ret : ℕ) {b : ℕ} {s : PrivilegedSteps} {ks : List PrivilegedSteps} {Q : Outcome → Type 0} (q : ProtectionState) (m : List ℕ) (a1 a2 a3 a4 a5 a6 a7 : ℕ) → IsOff true q → psp ≡ i.ram_base + o → InStack i t o top → i.ram_base + (o + 32) ≤ entry_top → read 4 (here + 4) m ≡ top → read 4 (o + 24) m ≡ ret → ret < 2 ^ 31 →
+    pub raise_within : (o top ret : ℕ) {b : ℕ} {s : PrivilegedSteps} {ks : List PrivilegedSteps} {Q : Outcome → Type 0} {q : ProtectionState} {m : List ℕ} {a1 a2 a3 a4 a5 a6 a7 : ℕ} → IsOff true q → psp ≡ i.ram_base + o → InStack i t o top → i.ram_base + (o + 32) ≤ entry_top → read 4 (here + 4) m ≡ top → read 4 (o + 24) m ≡ ret → ret < 2 ^ 31 →
         ((v4 : ℕ) (m1 : List ℕ) → m1 ≡ write 4 (o + 24) (ret + 2) m → length m1 ≡ length m → W b s ks (core msp psp q u m1 psp a1 a2 a3 v4 a5 2 a7) Q) → W (8 + b) (raise s) ks (core msp psp q u m psp a1 a2 a3 a4 a5 a6 a7) Q
-    raise_within o top ret {b} {s} {ks} {Q} q m a1 a2 a3 a4 a5 a6 a7 off ep io below et er lt f =
+    raise_within o top ret {b} {s} {ks} {Q} {m} off ep io below et er lt f =
         more_within
-        (frame_load_within i t p has stub Good Allowed handles good o top 6 off io below ep refl et (λ v4 e4.
+        (frame_load_within premises o top 6 off io below ep refl et (λ v4 e4.
         const_within (alu_within (λ x ex.
         let xe : x ≡ ret + 2 = plus_two v4 x (e4 ∙ er) ex in
-        frame_store_within i t p has stub Good Allowed handles good o top 6 off io ep refl et (λ m1 w1 z1. f x m1 (w1 ∙ ap (λ v. write 4 (o + 24) v m) xe) z1))))) (omega arith)
+        frame_store_within premises o top 6 off io ep refl et (λ m1 w1 z1. f x m1 (w1 ∙ ap (λ v. write 4 (o + 24) v m) xe) z1))))) (omega arith)
       where
         plus_two : (v x : ℕ) → v ≡ ret → x ≡ add v 2 → x ≡ ret + 2
         plus_two v x a b = omega (arith, a, b, lt)
 
     -- PSP, CUR, TOP and MARK into the saved entry numbered DEPTH
-    pub save_within : (d : ℕ) {b : ℕ} {s : PrivilegedSteps} {ks : List PrivilegedSteps} {Q : Outcome → Type 0} (q : ProtectionState) (m : List ℕ) (a2 a3 a4 a5 a6 a7 : ℕ) → IsOff true q → d < 8 → read 4 (here + 8) m ≡ d → length m ≡ i.ram_size → psp < 2 ^ 32 →
+    pub save_within : (d : ℕ) {b : ℕ} {s : PrivilegedSteps} {ks : List PrivilegedSteps} {Q : Outcome → Type 0} {q : ProtectionState} {m : List ℕ} {a2 a3 a4 a5 a6 a7 : ℕ} → IsOff true q → d < 8 → read 4 (here + 8) m ≡ d → length m ≡ i.ram_size → psp < 2 ^ 32 →
         ((v6 v7 : ℕ) (m4 : List ℕ) → Saves i t p psp d m m4 → W b s ks (core msp psp q u m4 psp k.block a2 a3 d a5 v6 v7) Q) → W (19 + b) (save s) ks (core msp psp q u m psp k.block a2 a3 a4 a5 a6 a7) Q
-    save_within d {b} {s} {ks} {Q} q m a2 a3 a4 a5 a6 a7 off few ed zm ps f =
+    save_within d {b} {s} {ks} {Q} {q} {m} {a2} {a3} {a5} off few ed zm ps f =
         more_within
-        (block_load_within i t p has stub Good Allowed handles good 2 off refl refl (λ v4 e4.
+        (block_load_within premises 2 off refl refl (λ v4 e4.
         let de : v4 ≡ d = e4 ∙ ed in
         const_within (copy_within (alu_within (λ x ex.
         let xe : x ≡ 16 * d = shl4 v4 x ex (low28 v4 de) ∙ ap (λ d. 16 * d) de in
         alu_within (λ y ey.
-        let ye : y ≡ t.monitor + 16 * d = entry_is i t p has stub y x d ey xe few in
-        entry_store_within i t p has stub Good Allowed handles good d 8 off ye few refl (λ m1 w1 z1.
-        block_load_within i t p has stub Good Allowed handles good 0 off refl refl (λ v1 x1.
-        entry_store_within i t p has stub Good Allowed handles good d 9 off ye few refl (λ m2 w2 z2.
-        block_load_within i t p has stub Good Allowed handles good 1 off refl refl (λ v2 x2.
-        entry_store_within i t p has stub Good Allowed handles good d 10 off ye few refl (λ m3 w3 z3.
-        block_load_within i t p has stub Good Allowed handles good 4 off refl refl (λ v3 x3.
-        entry_store_within i t p has stub Good Allowed handles good d 11 off ye few refl (λ m4 w4 z4.
+        let ye : y ≡ t.monitor + 16 * d = entry_is installed y x d ey xe few in
+        entry_store_within premises d 8 off ye few refl (λ m1 w1 z1.
+        block_load_within premises 0 off refl refl (λ v1 x1.
+        entry_store_within premises d 9 off ye few refl (λ m2 w2 z2.
+        block_load_within premises 1 off refl refl (λ v2 x2.
+        entry_store_within premises d 10 off ye few refl (λ m3 w3 z3.
+        block_load_within premises 4 off refl refl (λ v3 x3.
+        entry_store_within premises d 11 off ye few refl (λ m4 w4 z4.
         at_within (ap (λ x. core msp psp q u m4 psp k.block a2 a3 x a5 y v3) de) (f y v3 m4 (saves i t p psp d m m1 m2 m3 m4 v1 v2 v3 few zm ps w1 z1 x1 w2 z2 x2 w3 z3 x3 w4))))))))))))))) (omega arith)
       where
         low28 : (v : ℕ) → v ≡ d → v < 2 ^ 28
         low28 v e = omega (arith, e, few)
 
     -- one entry more is saved, the callee runs, and PSP is that of its frame, at offset fo
-    pub entered_within : (d current top fo : ℕ) {b : ℕ} {s : PrivilegedSteps} {ks : List PrivilegedSteps} {Q : Outcome → Type 0} (q : ProtectionState) (m : List ℕ) (a0 a2 a7 : ℕ) → IsOff true q → d < 8 → current < 2 ^ 16 → top < 2 ^ 32 → length m ≡ i.ram_size → fo % 4 ≡ 0 →
+    pub entered_within : (d current top fo : ℕ) {b : ℕ} {s : PrivilegedSteps} {ks : List PrivilegedSteps} {Q : Outcome → Type 0} {q : ProtectionState} {m : List ℕ} {a0 a2 a7 : ℕ} → IsOff true q → d < 8 → current < 2 ^ 16 → top < 2 ^ 32 → length m ≡ i.ram_size → fo % 4 ≡ 0 →
         ((m4 : List ℕ) (v7 : ℕ) → Counted i t p d current top m m4 → W b s ks (core msp (i.ram_base + fo) q u m4 a0 k.block a2 top (d + 1) current (i.ram_base + fo) v7) Q) → W (12 + b) (entered s) ks (core msp psp q u m a0 k.block a2 top d current (i.ram_base + fo) a7) Q
-    entered_within d current top fo {b} {s} {ks} {Q} q m a0 a2 a7 off few lc lt zm al f =
+    entered_within d current top fo {b} {s} {ks} {Q} {q} {m} {a0} {a2} off few lc lt zm al f =
         more_within
         (const_within (alu_within (λ x ex.
         let xe : x ≡ d + 1 = plus_one x ex in
-        block_store_within i t p has stub Good Allowed handles good 2 off refl refl (λ m1 w1 z1.
-        block_store_within i t p has stub Good Allowed handles good 0 off refl refl (λ m2 w2 z2.
-        block_store_within i t p has stub Good Allowed handles good 1 off refl refl (λ m3 w3 z3.
-        block_load_within i t p has stub Good Allowed handles good 3 off refl refl (λ v e4.
-        block_store_within i t p has stub Good Allowed handles good 4 off refl refl (λ m4 w4 z4.
+        block_store_within premises 2 off refl refl (λ m1 w1 z1.
+        block_store_within premises 0 off refl refl (λ m2 w2 z2.
+        block_store_within premises 1 off refl refl (λ m3 w3 z3.
+        block_load_within premises 3 off refl refl (λ v e4.
+        block_store_within premises 4 off refl refl (λ m4 w4 z4.
         write_psp_within (on_msp q off.privileged)
-        (at_within (ap (λ s. core msp s q u m4 a0 k.block a2 top x current (i.ram_base + fo) v) (whole_word i t p has stub (i.ram_base + fo) fo refl al) ∙ ap (λ x. core msp (i.ram_base + fo) q u m4 a0 k.block a2 top x current (i.ram_base + fo) v) xe)
+        (at_within (ap (λ s. core msp s q u m4 a0 k.block a2 top x current (i.ram_base + fo) v) (whole_word installed (i.ram_base + fo) fo refl al) ∙ ap (λ x. core msp (i.ram_base + fo) q u m4 a0 k.block a2 top x current (i.ram_base + fo) v) xe)
         (f m4 v (counted i t p d current top m m1 m2 m3 m4 v few lc lt zm (w1 ∙ ap (λ x. write 4 (here + 8) x m) xe) z1 w2 z2 w3 z3 e4 w4))))))))))) (omega arith)
       where
         plus_one : (x : ℕ) → x ≡ add d 1 → x ≡ d + 1

@@ -5,7 +5,6 @@ use Rattle.std.proofs.lemmas.Bool.{ltb-true, eqb-true, ltb-false}
 use Rattle.base_words.specs.Arithmetic.{add}
 use Rattle.base_words.specs.declared.memory.Width.TheVariants.{Half, Word}
 use Rattle.base_words.specs.Bytes.{read}
-use Rattle.machine_devices.specs.declared.image.Image.{Image}
 use Rattle.machine_devices.specs.Rules.{ObeysRules}
 use Rattle.machine_model.specs.declared.state.ProtectionState.{ProtectionState}
 use Rattle.machine_model.specs.declared.state.FaultStatus.{FaultStatus}
@@ -13,23 +12,22 @@ use Rattle.machine_model.specs.State.{by_mpu}
 use Rattle.monitor_steps.specs.Steps.{PrivilegedSteps, Load}
 use Rattle.monitor_steps.specs.Core.{Core, low_register, with_low}
 use Rattle.monitor_steps.specs.Effect.{Outcome, Halted}
-use Rattle.monitor_steps.specs.Safe.{Rule}
 use Rattle.monitor_steps.proofs.Within.{GivesWithin, const_within, copy_within, alu_within, at_within, more_within, must_within, load_flash_within}
-use Rattle.monitor_model.specs.declared.tables.Tables.{Tables}
 use Rattle.monitor_model.specs.Records.{site_at, no_site, number_of_slots}
 use Rattle.monitor_model.specs.Layout.{head_at}
-use Rattle.monitor_model.specs.Area.{HasTables, compartment_words, site_words, head, area}
-use Rattle.monitor_model.specs.Placed.{Placed}
+use Rattle.monitor_model.specs.Area.{compartment_words, site_words, head, area}
 use Rattle.monitor_program.specs.Constants.{Constants, constants_with}
 use Rattle.monitor_program.specs.Svc.{site}
 use Rattle.monitor_laws.proofs.Numbers.{shl2, product}
 use Rattle.monitor_laws.proofs.Off.{core, IsOff, open_while_off}
 use Rattle.monitor_laws.proofs.FlashWords.{Has, flash_has, has_front, has_back, has_record, records_length}
 use Rattle.monitor_laws.proofs.Tables.{counts, three_words}
-use Rattle.monitor_laws.proofs.Opened.{Handles, eq_false}
+use Rattle.monitor_laws.proofs.Opened.{eq_false, HandlerPremises}
 use Rattle.monitor_laws.proofs.Placement.{writable}
 
-module _ (i : Image) (t : Tables) (p : Placed i t) (has : HasTables i t) (stub : ℕ) (Good : ProtectionState → Type 0) (Allowed : Rule) {entry_top : ℕ} (handles : Handles i t entry_top Allowed) where
+module _ (premises : HandlerPremises) where
+  open premises use {installed, installed.{image as i, tables as t, placed as p, has_tables as has, stub}, Good, Allowed, handles}
+
   abbrev k : Constants
   k = constants_with stub t
 
@@ -62,7 +60,7 @@ module _ (i : Image) (t : Tables) (p : Placed i t) (has : HasTables i t) (stub :
 
   sites_at_is : (n : ℕ) → n < length t.sites → k.sites_at ≡ i.flash_base + sites_offset
   sites_at_is n lt =
-      let c = records_length compartment_words (2 * number_of_slots t + 4) t.comps (counts i t (writable i t p has stub) stub) in
+      let c = records_length compartment_words (2 * number_of_slots t + 4) t.comps (counts i t (writable installed) stub) in
       let m = product (number_of_slots t) (length t.comps) in
       let e = p.tables_first in
       let h = rules.flash_highest in
@@ -84,13 +82,13 @@ module _ (i : Image) (t : Tables) (p : Placed i t) (has : HasTables i t) (stub :
   half_within o {b = b} {c = c} q e al hi f =
       load_flash_within rules o {z = Half} (open_while_off c.protection q.control) (omega (arith, e)) (let a = rules.flash_aligned in omega (arith, al, a)) (omega (arith, hi)) (handles.plain.flash c 2 o hi) f
 
-  module _ (msp psp : ℕ) (u : FaultStatus) where
+  module _ {msp psp : ℕ} {u : FaultStatus} where
     -- the return address is that of flash offset ro; halt 2 where the halfword there is no site's number, or the site's return address another
-    pub site_within : (ret ro : ℕ) {b : ℕ} {s : PrivilegedSteps} {ks : List PrivilegedSteps} {Q : Outcome → Type 0} (q : ProtectionState) (m : List ℕ) (a0 a1 a2 a3 a5 a6 a7 : ℕ) → IsOff true q → ret ≡ i.flash_base + ro → ro % 2 ≡ 0 → ro + 2 ≤ length i.flash →
+    pub site_within : (ret ro : ℕ) {b : ℕ} {s : PrivilegedSteps} {ks : List PrivilegedSteps} {Q : Outcome → Type 0} {q : ProtectionState} {m : List ℕ} {a0 a1 a2 a3 a5 a6 a7 : ℕ} → IsOff true q → ret ≡ i.flash_base + ro → ro % 2 ≡ 0 → ro + 2 ≤ length i.flash →
         ((d : Core) → d.ram ≡ m → (read 2 ro i.flash < length t.sites → (site_at t (read 2 ro i.flash)).ret ≡ ret → ⊥) → Q (Halted 2 d)) →
         ((v7 : ℕ) → read 2 ro i.flash < length t.sites → (site_at t (read 2 ro i.flash)).ret ≡ ret → W b s ks (core msp psp q u m a0 a1 a2 a3 ret (site_at t (read 2 ro i.flash)).first (site_at t (read 2 ro i.flash)).count v7) Q) →
         W (37 + b) (site k s) ks (core msp psp q u m a0 a1 a2 a3 ret a5 a6 a7) Q
-    site_within ret ro {b} {s} {ks} {Q} q m a0 a1 a2 a3 a5 a6 a7 off er even room refuse f =
+    site_within ret ro {b} {s} {ks} {Q} {q} {m} {a0} {a1} {a2} {a3} off er even room refuse f =
         more_within
         (half_within ro off er even room (λ v5 e5.
         const_within

@@ -1,5 +1,5 @@
 -- The words of the tables in flash, part by part.
-use Rattle.std.proofs.Common.{◌≡◌, ℕ, zero, suc, ◌+◌, ◌-◌, ◌*◌, ◌<◌, ◌≤◌, List, [], ◌∷◌, ◌++◌, length, get_or, ap, subst, arith}
+use Rattle.std.proofs.Common.{◌≡◌, ℕ, zero, suc, ◌+◌, ◌-◌, ◌*◌, ◌<◌, ◌≤◌, List, [], ◌∷◌, ◌++◌, length, get_or, ap, subst, arith, length-append}
 use Rattle.std.specs.Prelude.{flat_map}
 use Rattle.base_words.specs.Bytes.{read}
 use Rattle.machine_protection.specs.declared.region.Region.{Region}
@@ -52,7 +52,7 @@ has_record i f n (x ∷ xs) d o e h (suc k) lt =
 pub records_length : {A : Type 0} (f : A → List ℕ) (n : ℕ) (xs : List A) → Each (λ x. length (f x) ≡ n) xs → length (flat_map f xs) ≡ n * length xs
 records_length f n [] e = grind arith
 records_length f n (x ∷ xs) e =
-    let l = Rattle.std.proofs.Common.length-append (f x) (flat_map f xs) in
+    let l = length-append (f x) (flat_map f xs) in
     let h = records_length f n xs e.1 in
     let z = e.0 in
     grind (arith, l, h, z)

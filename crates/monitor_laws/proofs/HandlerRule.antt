@@ -19,9 +19,11 @@ use Rattle.monitor_model.specs.Reach.{AllBytes, InBlock, StoreKind, ByStack, ByB
 use Rattle.monitor_model.specs.Placed.{Placed}
 use Rattle.monitor_model.specs.BlockWords.{top}
 use Rattle.monitor_model.specs.Handlers.{LoadFor, ForFlash, ForBlock, ForStack, Handles as IsHandlers, Leads as HandlerLeads}
-use Rattle.monitor_laws.proofs.Opened.{Handles}
+use Rattle.monitor_laws.proofs.Off.{IsOff}
+use Rattle.monitor_laws.proofs.Opened.{Handles, HandlerPremises}
 use Rattle.monitor_laws.proofs.Ranges.{still}
 use Rattle.base_laws.proofs.Lists.{each_to}
+use Rattle.monitor_laws.proofs.Placement.{Installed}
 
 -- a state that accesses as this core does
 pub record IsAt (c : Core) (u : State) : Type 0 where
@@ -75,3 +77,14 @@ fine_steps_handle i t s Good mode u f = record {
 -- and so are the steps of a run
 pub runs_handle : (i : Image) (t : Tables) (s : State) (Good : ProtectionState → Type 0) → ((q : ProtectionState) → Good q → q.handler ≡ true) → (most : ℕ) (u : State) (P : State → Type 0) → Leads by_mpu i Good (HandlerRule i t s) most u P → HandlerLeads i t s most u P
 runs_handle i t s Good mode most u P l = record { count = l.steps; within = l.within; each = λ k lt. fine_steps_handle i t s Good mode (run (step i) k u) (l.each k lt); holds = l.holds }
+
+-- the premises of a handler that works for the instruction to which a thread comes
+abbrev pub thread_premises : (installed : Installed) (thread : State) (Good : ProtectionState → Type 0) → ((q : ProtectionState) → IsOff true q → Good q) → HandlerPremises
+thread_premises installed thread Good good = record {
+  installed = installed;
+  Good = Good;
+  Allowed = HandlerRule installed.image installed.tables thread;
+  entry_top = top installed.image installed.tables thread.ram;
+  handles = handlers_reach installed.image installed.tables thread installed.placed;
+  good = good;
+}

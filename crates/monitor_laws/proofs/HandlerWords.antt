@@ -18,11 +18,10 @@ use Rattle.monitor_steps.proofs.Gives.{set_psp_gives}
 use Rattle.monitor_steps.proofs.Within.{GivesWithin, ticks_all, load_within, store_within}
 use Rattle.monitor_model.specs.declared.tables.Tables.{Tables}
 use Rattle.monitor_model.specs.Records.{stack_end}
-use Rattle.monitor_model.specs.Area.{HasTables}
 use Rattle.monitor_model.specs.Placed.{Placed}
 use Rattle.monitor_laws.proofs.Off.{IsOff, open_while_off}
-use Rattle.monitor_laws.proofs.Opened.{Handles}
 use Rattle.monitor_laws.proofs.Placement.{writable}
+use Rattle.monitor_laws.proofs.Opened.{HandlerPremises}
 
 -- PSP, with steps behind it
 pub write_psp_within : {j : PermissionTest} {i : Image} {Good : ProtectionState → Type 0} {Allowed : Rule} {n from : ℕ} {k : PrivilegedSteps} {ks : List PrivilegedSteps} {c : Core} {Q : Outcome → Type 0} → is_privileged_on_msp c ≡ true → GivesWithin j i Good Allowed n k ks (with_psp c (low_register c from)) Q → GivesWithin j i Good Allowed (1 + n) (WritePsp from k) ks c Q
@@ -76,7 +75,9 @@ apart_from_block i t o top p s =
     let l = s.low in let h = s.high in let e = s.ends in let b = p.block_inside.0 in
     ⊎_elim (λ x. inl (omega (arith, l, h, e, b, x))) (λ x. inr (omega (arith, l, h, e, b, x))) p.apart
 
-module _ (i : Image) (t : Tables) (p : Placed i t) (has : HasTables i t) (stub : ℕ) (Good : ProtectionState → Type 0) (Allowed : Rule) {entry_top : ℕ} (handles : Handles i t entry_top Allowed) (good : (q : ProtectionState) → IsOff true q → Good q) where
+module _ (premises : HandlerPremises) where
+  open premises use {installed, installed.{image as i, tables as t, placed as p, has_tables as has}, Good, Allowed, entry_top, handles, good}
+
   abbrev W : ℕ → PrivilegedSteps → List PrivilegedSteps → Core → (Outcome → Type 0) → Type 0
   W n s ks c Q = GivesWithin by_mpu i Good Allowed n s ks c Q
 
@@ -118,7 +119,7 @@ module _ (i : Image) (t : Tables) (p : Placed i t) (has : HasTables i t) (stub :
   frame_aligned o off e = omega (arith, e)
 
   frame_room : (o top off : ℕ) → InStack i t o top → off < 8 → o + 4 * off + 4 ≤ i.ram_size
-  frame_room o top off s lt = let h = s.high in let e = s.ends in let a = (writable i t p has stub).stack_inside.1 in omega (arith, h, e, a, lt)
+  frame_room o top off s lt = let h = s.high in let e = s.ends in let a = (writable installed).stack_inside.1 in omega (arith, h, e, a, lt)
 
   frame_low : (o top off : ℕ) → InStack i t o top → t.stack.base ≤ i.ram_base + (o + 4 * off)
   frame_low o top off s = let l = s.low in omega (arith, l)

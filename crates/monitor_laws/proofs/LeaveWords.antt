@@ -2,13 +2,9 @@
 use Rattle.std.proofs.Common.{◌≡◌, ℕ, suc, ◌+◌, ◌-◌, ◌*◌, ◌/◌, ◌%◌, ◌^◌, ◌<◌, ◌≤◌, ◌⊎◌, inl, inr, ⊎_elim, List, length, ap, ◌∙◌, arith}
 use Rattle.base_words.specs.Arithmetic.{add, subtract}
 use Rattle.base_words.specs.Bytes.{read, write}
-use Rattle.machine_devices.specs.declared.image.Image.{Image}
 use Rattle.monitor_steps.proofs.Gives.{word_same, word_apart, word_fits}
-use Rattle.monitor_model.specs.declared.tables.Tables.{Tables}
-use Rattle.monitor_model.specs.Area.{HasTables}
-use Rattle.monitor_model.specs.Placed.{Placed}
 use Rattle.monitor_program.specs.Constants.{Constants, constants_with}
-use Rattle.monitor_laws.proofs.Placement.{block_is, writable}
+use Rattle.monitor_laws.proofs.Placement.{block_is, writable, Installed}
 use Rattle.monitor_laws.proofs.HandlerWords.{Changed, changed_write, changed_in, changed_none, InStack, apart_from_block}
 
 -- a word beside a store is that before it
@@ -19,7 +15,9 @@ beside a o v m n e h = ap (λ n. read 4 a n) e ∙ word_apart a o v m h
 pub stored : (o v : ℕ) (m n : List ℕ) → n ≡ write 4 o v m → o + 4 ≤ length m → v < 2 ^ 32 → read 4 o n ≡ v
 stored o v m n e h l = ap (λ n. read 4 o n) e ∙ word_same o v m h l
 
-module _ (i : Image) (t : Tables) (p : Placed i t) (has : HasTables i t) (stub : ℕ) where
+module _ (installed : Installed) where
+  open installed use {image as i, tables as t, placed as p, has_tables as has, stub}
+
   abbrev k : Constants
   k = constants_with stub t
 
@@ -77,7 +75,7 @@ module _ (i : Image) (t : Tables) (p : Placed i t) (has : HasTables i t) (stub :
 
   pub entry_is : (q s d : ℕ) → q ≡ add s k.block → s ≡ 16 * d → d < 8 → q ≡ t.monitor + 16 * d
   entry_is q s d a b c =
-      let e = block_is i t p has stub in let l = p.block_inside.1 in let h = p.rules.ram_highest in let m = p.rules.ram_most in
+      let e = block_is installed in let l = p.block_inside.1 in let h = p.rules.ram_highest in let m = p.rules.ram_most in
       omega (arith, a, b, c, e, l, h, m)
 
   pub whole_word : (a o : ℕ) → a ≡ i.ram_base + o → o % 4 ≡ 0 → a / 4 * 4 ≡ i.ram_base + o
@@ -171,4 +169,4 @@ module _ (i : Image) (t : Tables) (p : Placed i t) (has : HasTables i t) (stub :
       v6_is = e6 ∙ (let z : o + 4 * 0 ≡ o = omega arith in ap (λ o. read 4 o m5) z) ∙ same
 
       room : back + 4 ≤ length m5
-      room = let c = ch.as_long in let h = ib.high in let e = ib.ends in let a = (writable i t p has stub).stack_inside.1 in omega (arith, c, long, h, e, a)
+      room = let c = ch.as_long in let h = ib.high in let e = ib.ends in let a = (writable installed).stack_inside.1 in omega (arith, c, long, h, e, a)

@@ -1,7 +1,7 @@
 -- Shifts, bits and products as the lists compute them.
 use Rattle.std.proofs.Common.{◌≡◌, ℕ, zero, suc, ◌+◌, ◌-◌, ◌*◌, ◌/◌, ◌%◌, ◌^◌, ◌<◌, ◌≤◌, ◌⊎◌, inl, inr, Bool, true, false, List, [], ◌∷◌, length, refl, sym, ap, ◌∙◌, arith}
 use Rattle.std.specs.Prelude.{bit_and}
-use Rattle.std.proofs.lemmas.Nat.{div-mul-add}
+use Rattle.std.proofs.lemmas.Nat.{div-mul-add, pow_pos}
 use Rattle.base_words.specs.Arithmetic.{word, shift_left, shift_right}
 use Rattle.monitor_program.specs.Opening.{bits_of}
 
@@ -60,7 +60,7 @@ unfolding shift_left
 srd_word n v x e h = h ∙ ap (λ n. word (255 * 2 ^ (n % 256))) e
 
 pub below_256 : (n : ℕ) → n ≤ 8 → (256 - 2 ^ n) < 256
-below_256 n h = let p = Rattle.std.proofs.lemmas.Nat.pow_pos n in omega arith
+below_256 n h = let p = pow_pos n in omega arith
 
 -- ---- products by doubling
 

@@ -14,7 +14,7 @@ use Rattle.machine_model.specs.State.{by_mpu, is_unprivileged}
 use Rattle.machine_model.specs.System.{in_system, is_system_register, write_status, read_system}
 use Rattle.machine_model.proofs.ToSystem.{to_system}
 use Rattle.monitor_steps.specs.Steps.{PrivilegedSteps, Load, Store}
-use Rattle.monitor_steps.specs.Core.{Core, low_register, with_low}
+use Rattle.monitor_steps.specs.Core.{Core, low_register, with_low, with_system}
 use Rattle.monitor_steps.specs.Accesses.{Value, address_of, load}
 use Rattle.monitor_steps.specs.Effect.{Outcome}
 use Rattle.monitor_steps.specs.Safe.{Rule}
@@ -99,17 +99,17 @@ module _ (i : Image) (rules : ObeysRules i) (Good : ProtectionState → Type 0) 
       system_within a o.privileged e al lt s r (allows.system c a o.mode al s) (good q off1)
       (at_within (ap (λ u. record c { protection = q; status = u }) st) (f q refl off1))
 
-  module _ (msp psp : ℕ) (u : FaultStatus) where
+  module _ {msp psp : ℕ} {u : FaultStatus} where
     -- MPU_CTRL, by r6 and r7
-    pub set_control_within : {n : ℕ} {k : PrivilegedSteps} {ks : List PrivilegedSteps} {Q : Outcome → Type 0} (v : ℕ) (p : ProtectionState) (m : List ℕ) (a0 a1 a2 a3 a4 a5 a6 a7 : ℕ) → p.handler ≡ h → is_unprivileged p ≡ false → v < 8 → Good (with_unit p (record p.mpu { control = v })) →
+    pub set_control_within : {n : ℕ} {k : PrivilegedSteps} {ks : List PrivilegedSteps} {Q : Outcome → Type 0} (v : ℕ) {p : ProtectionState} {m : List ℕ} {a0 a1 a2 a3 a4 a5 a6 a7 : ℕ} → p.handler ≡ h → is_unprivileged p ≡ false → v < 8 → Good (with_unit p (record p.mpu { control = v })) →
         ((q : ProtectionState) → q ≡ with_unit p (record p.mpu { control = v }) → Within n k ks (core msp psp q u m a0 a1 a2 a3 a4 a5 MPU_CTRL v) Q) →
         Within (2 + (2 + (1 + n))) (set_control 6 7 v k) ks (core msp psp p u m a0 a1 a2 a3 a4 a5 a6 a7) Q
-    set_control_within {n} {k} {ks} {Q} v p m a0 a1 a2 a3 a4 a5 a6 a7 mode priv lt ok f =
+    set_control_within {n} {k} {ks} {Q} v {p} {m} {a0} {a1} {a2} {a3} {a4} {a5} mode priv lt ok f =
         let c1 : Core = core msp psp p u m a0 a1 a2 a3 a4 a5 MPU_CTRL v in
         let q : ProtectionState = with_unit p (record p.mpu { control = v }) in
         let small : v % 8 ≡ v = omega arith in
         let e : write_register MPU_CTRL v p.mpu ≡ record p.mpu { control = v } = control_written v p.mpu ∙ ap (λ v. record p.mpu { control = v }) small in
-        let same : Rattle.monitor_steps.specs.Core.with_system c1 MPU_CTRL v ≡ core msp psp q u m a0 a1 a2 a3 a4 a5 MPU_CTRL v =
+        let same : with_system c1 MPU_CTRL v ≡ core msp psp q u m a0 a1 a2 a3 a4 a5 MPU_CTRL v =
         ap (λ r. record c1 { protection = with_unit p r; status = write_status MPU_CTRL v u }) e ∙ ap (λ s. record c1 { protection = q; status = s }) (status_stays MPU_CTRL v u (inl refl)) in
         const_within (const_within
         (system_within MPU_CTRL priv refl refl (omega arith) refl refl (allows.system _ MPU_CTRL mode refl refl) (subst Good (ap (λ c. c.protection) (sym same)) ok)

@@ -6,6 +6,7 @@ use Rattle.std.specs.Prelude.{bit_and}
 use Rattle.std.proofs.lemmas.Bool.{eqb-true, leb-true}
 use Rattle.base_words.specs.declared.memory.Width.TheVariants.{Word}
 use Rattle.base_words.specs.Bytes.{read, write}
+use Rattle.base_words.specs.Arithmetic.{subtract}
 use Rattle.machine_protection.specs.declared.region.Access.{Access}
 use Rattle.machine_protection.specs.declared.region.Access.TheVariants.{Read, Write}
 use Rattle.machine_protection.specs.declared.TheConstants.{MPU_CTRL}
@@ -15,19 +16,17 @@ use Rattle.machine_model.specs.declared.state.ProtectionState.{ProtectionState}
 use Rattle.machine_model.specs.declared.state.FaultStatus.{FaultStatus}
 use Rattle.machine_model.specs.State.{by_mpu, is_unprivileged}
 use Rattle.monitor_steps.specs.Steps.{PrivilegedSteps, Load, Store}
-use Rattle.monitor_steps.specs.Core.{Core, low_register}
+use Rattle.monitor_steps.specs.Core.{Core, low_register, with_low, with_ram}
 use Rattle.monitor_steps.specs.Effect.{Outcome, Halted}
 use Rattle.monitor_steps.specs.Safe.{Rule}
 use Rattle.monitor_steps.proofs.Gives.{word_fits}
 use Rattle.monitor_steps.proofs.Within.{GivesWithin, const_within, alu_within, at_within, more_within, must_within, psp_within, load_within, store_within}
 use Rattle.monitor_model.specs.declared.tables.Tables.{Tables}
 use Rattle.monitor_model.specs.Records.{stack_end}
-use Rattle.monitor_model.specs.Area.{HasTables}
-use Rattle.monitor_model.specs.Placed.{Placed}
 use Rattle.monitor_program.specs.Constants.{Constants, constants_with}
 use Rattle.monitor_program.specs.Opening.{opened}
 use Rattle.monitor_laws.proofs.Off.{core, with_unit, IsOff, Allows, open_while_off, set_control_within}
-use Rattle.monitor_laws.proofs.Placement.{block_is, writable}
+use Rattle.monitor_laws.proofs.Placement.{block_is, writable, Installed}
 
 pub le_false : (x y : ℕ) → nat_le x y ≡ false → y < x
 le_false x y h = grind (arith, nat_tests)
@@ -59,7 +58,23 @@ pub record Handles (i : Image) (t : Tables) (entry_top : ℕ) (Allowed : Rule) :
   pub stack_load : (c : Core) (o : ℕ) → t.stack.base ≤ i.ram_base + o → i.ram_base + (o + 4) ≤ read 4 (t.monitor - i.ram_base + 4) c.ram → i.ram_base + (o + 4) ≤ entry_top → Allowed Read c 4 (i.ram_base + o)
   pub stack_store : (c : Core) (o : ℕ) → t.stack.base ≤ i.ram_base + o → i.ram_base + (o + 4) ≤ read 4 (t.monitor - i.ram_base + 4) c.ram → Allowed Write c 4 (i.ram_base + o)
 
-module _ (i : Image) (t : Tables) (p : Placed i t) (has : HasTables i t) (stub : ℕ) (Good : ProtectionState → Type 0) (Allowed : Rule) {entry_top : ℕ} (handles : Handles i t entry_top Allowed) (good : (q : ProtectionState) → IsOff true q → Good q) where
+-- what the laws of the handlers' lists rest on: the monitor in its image, and what a handler's steps are held to
+pub record HandlerPremises : Type 1 where
+  pub installed : Installed
+  -- what the protection unit and the mode are to be at each step
+  pub Good : ProtectionState → Type 0
+  -- what each step may access
+  pub Allowed : Rule
+  -- the block's TOP where the handler was entered
+  pub entry_top : ℕ
+  -- the rule allows what handlers access
+  pub handles : Handles installed.image installed.tables entry_top Allowed
+  -- a handler is right with its unit off
+  pub good : (q : ProtectionState) → IsOff true q → Good q
+
+module _ (premises : HandlerPremises) where
+  open premises use {installed, installed.{image as i, tables as t, placed as p, has_tables as has, stub}, Good, Allowed, entry_top, handles, good}
+
   abbrev k : Constants
   k = constants_with stub t
 
@@ -73,7 +88,7 @@ module _ (i : Image) (t : Tables) (p : Placed i t) (has : HasTables i t) (stub :
   block = t.monitor - i.ram_base
 
   block_at : (off x : ℕ) → x ≡ k.block → x + 4 * off ≡ i.ram_base + (block + 4 * off)
-  block_at off x e = let b = block_is i t p has stub in let l = p.block_inside.0 in omega (arith, e, b, l)
+  block_at off x e = let b = block_is installed in let l = p.block_inside.0 in omega (arith, e, b, l)
 
   block_aligned : (off : ℕ) → (block + 4 * off) % 4 ≡ 0
   block_aligned off = let a = p.block_aligned in let r = rules.ram_aligned in let l = p.block_inside.0 in omega (arith, a, r, l)
@@ -83,26 +98,26 @@ module _ (i : Image) (t : Tables) (p : Placed i t) (has : HasTables i t) (stub :
 
   -- a word of the block, whose address a register has
   pub block_load_within : (off : ℕ) {n to b : ℕ} {s : PrivilegedSteps} {ks : List PrivilegedSteps} {c : Core} {Q : Outcome → Type 0} → IsOff true c.protection → low_register c b ≡ k.block → nat_lt off 136 ≡ true →
-      ((v : ℕ) → v ≡ read 4 (block + 4 * off) c.ram → W n s ks (Rattle.monitor_steps.specs.Core.with_low c to v) Q) → W (1 + n) (Load Word to b off s) ks c Q
+      ((v : ℕ) → v ≡ read 4 (block + 4 * off) c.ram → W n s ks (with_low c to v) Q) → W (1 + n) (Load Word to b off s) ks c Q
   block_load_within off {b = b} {c = c} q e h f =
       let z : off < 136 = grind (arith, nat_tests, h) in
       load_within rules (block + 4 * off) (open_while_off c.protection q.control) (block_at off (low_register c b) e) (block_aligned off) (block_room off z) (handles.block Read c (4 * off) q.mode (omega (arith, z))) f
 
   pub block_store_within : (off : ℕ) {n from b : ℕ} {s : PrivilegedSteps} {ks : List PrivilegedSteps} {c : Core} {Q : Outcome → Type 0} → IsOff true c.protection → low_register c b ≡ k.block → nat_lt off 136 ≡ true →
-      ((m : List ℕ) → m ≡ write 4 (block + 4 * off) (low_register c from) c.ram → length m ≡ length c.ram → W n s ks (Rattle.monitor_steps.specs.Core.with_ram c m) Q) → W (1 + n) (Store Word from b off s) ks c Q
+      ((m : List ℕ) → m ≡ write 4 (block + 4 * off) (low_register c from) c.ram → length m ≡ length c.ram → W n s ks (with_ram c m) Q) → W (1 + n) (Store Word from b off s) ks c Q
   block_store_within off {from = from} {b = b} {c = c} q e h f =
       let z : off < 136 = grind (arith, nat_tests, h) in
       store_within rules (block + 4 * off) (open_while_off c.protection q.control) (good c.protection q) (block_at off (low_register c b) e) (block_aligned off) (block_room off z) (handles.block Write c (4 * off) q.mode (omega (arith, z))) f
 
-  module _ (msp psp : ℕ) (u : FaultStatus) where
+  module _ {msp psp : ℕ} {u : FaultStatus} where
     -- the three tests with their halts: 46 steps at most
-    pub opened_within : {b : ℕ} {s : PrivilegedSteps} {ks : List PrivilegedSteps} {Q : Outcome → Type 0} (q : ProtectionState) (o : ℕ) (m : List ℕ) (a0 a1 a2 a3 a4 a5 a6 a7 : ℕ) → q.handler ≡ true → is_unprivileged q ≡ false → psp ≡ i.ram_base + o → o % 4 ≡ 0 → o < 2 ^ 31 → read 4 (block + 4) m ≤ stack_end t → read 4 (block + 4) m ≤ entry_top →
+    pub opened_within : {b : ℕ} {s : PrivilegedSteps} {ks : List PrivilegedSteps} {Q : Outcome → Type 0} {q : ProtectionState} (o : ℕ) {m : List ℕ} {a0 a1 a2 a3 a4 a5 a6 a7 : ℕ} → q.handler ≡ true → is_unprivileged q ≡ false → psp ≡ i.ram_base + o → o % 4 ≡ 0 → o < 2 ^ 31 → read 4 (block + 4) m ≤ stack_end t → read 4 (block + 4) m ≤ entry_top →
         ((d : Core) → d.ram ≡ m → (FrameIsOpen i t o m → ⊥) → Q (Halted 4 d)) →
         ((q1 : ProtectionState) (v4 : ℕ) → q1 ≡ with_unit q (record q.mpu { control = 0 }) → IsOff true q1 → FrameIsOpen i t o m → W b s ks (core msp psp q1 u m psp k.block k.stack (read 4 (block + 4) m) v4 0 MPU_CTRL 0) Q) →
         W (46 + b) (opened k s) ks (core msp psp q u m a0 a1 a2 a3 a4 a5 a6 a7) Q
-    opened_within {b} {s} {ks} {Q} q o m a0 a1 a2 a3 a4 a5 a6 a7 h un ep ao small et below refuse go =
+    opened_within {b} {s} {ks} {Q} o {m} h un ep ao small et below refuse go =
         more_within
-        (set_control_within i rules Good Allowed true handles.plain good msp psp u 0 q m a0 a1 a2 a3 a4 a5 a6 a7 h un (omega arith) (good _ (record { mode = h; privileged = un; control = refl })) (λ q1 eq.
+        (set_control_within i rules Good Allowed true handles.plain good 0 h un (omega arith) (good _ (record { mode = h; privileged = un; control = refl })) (λ q1 eq.
         let off : IsOff true q1 = rw eq (record { mode = h; privileged = un; control = refl }) in
         psp_within (on_msp q1 off.privileged) (const_within (const_within
         (must_within (λ e1. refuse _ refl (λ x. absurd (not_low (le_false _ _ e1) x.low))) (λ e1.
@@ -118,7 +133,7 @@ module _ (i : Image) (t : Tables) (p : Placed i t) (has : HasTables i t) (stub :
         at_within (ap (λ top. core msp psp q1 u m psp k.block k.stack top v 0 MPU_CTRL 0) etop) (go q1 v eq off (record { low = is_low (leb-true _ _ e1); high = is_high top d etop (leb-true _ _ e2) ed (leb-true _ _ e3); no_pad = nine })))))))))))))))))) (omega arith)
       where
         stack_is : k.stack ≡ t.stack.base
-        stack_is = let a = (writable i t p has stub).stack_inside.1 in let x = rules.ram_highest in let y = rules.ram_most in omega (arith, a, x, y)
+        stack_is = let a = (writable installed).stack_inside.1 in let x = rules.ram_highest in let y = rules.ram_most in omega (arith, a, x, y)
 
         is_low : k.stack ≤ psp → t.stack.base ≤ i.ram_base + o
         is_low l = let s = stack_is in omega (arith, l, s, ep)
@@ -129,10 +144,10 @@ module _ (i : Image) (t : Tables) (p : Placed i t) (has : HasTables i t) (stub :
         not_high : (top : ℕ) → top ≡ read 4 (block + 4) m → top < psp → i.ram_base + o + 32 ≤ read 4 (block + 4) m → ⊥
         not_high top e l x = omega (arith, e, l, x, ep)
 
-        is_high : (top d : ℕ) → top ≡ read 4 (block + 4) m → psp ≤ top → d ≡ Rattle.base_words.specs.Arithmetic.subtract top psp → 32 ≤ d → i.ram_base + o + 32 ≤ read 4 (block + 4) m
+        is_high : (top d : ℕ) → top ≡ read 4 (block + 4) m → psp ≤ top → d ≡ subtract top psp → 32 ≤ d → i.ram_base + o + 32 ≤ read 4 (block + 4) m
         is_high top d e l ed x = let f = word_fits (block + 4) m in omega (arith, e, l, ed, x, ep, f)
 
-        not_room : (top d : ℕ) → top ≡ read 4 (block + 4) m → psp ≤ top → d ≡ Rattle.base_words.specs.Arithmetic.subtract top psp → d < 32 → i.ram_base + o + 32 ≤ read 4 (block + 4) m → ⊥
+        not_room : (top d : ℕ) → top ≡ read 4 (block + 4) m → psp ≤ top → d ≡ subtract top psp → d < 32 → i.ram_base + o + 32 ≤ read 4 (block + 4) m → ⊥
         not_room top d e l ed x h = let f = word_fits (block + 4) m in omega (arith, e, l, ed, x, ep, f, h)
 
         frame_at : psp ≡ i.ram_base + o → psp + 4 * 7 ≡ i.ram_base + (o + 28)
@@ -142,7 +157,7 @@ module _ (i : Image) (t : Tables) (p : Placed i t) (has : HasTables i t) (stub :
         frame_aligned a = omega (arith, a)
 
         frame_room : i.ram_base + o + 32 ≤ read 4 (block + 4) m → o + 28 + 4 ≤ i.ram_size
-        frame_room x = let a = (writable i t p has stub).stack_inside.1 in omega (arith, x, a, et)
+        frame_room x = let a = (writable installed).stack_inside.1 in omega (arith, x, a, et)
 
         later : t.stack.base ≤ i.ram_base + o → t.stack.base ≤ i.ram_base + (o + 28)
         later l = omega (arith, l)

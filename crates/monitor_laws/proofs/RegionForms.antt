@@ -1,5 +1,5 @@
 -- What the check of regions tells of the addresses that a compartment's regions hold.
-use Rattle.std.proofs.Common.{◌≡◌, ℕ, zero, suc, ◌+◌, ◌-◌, ◌*◌, ◌/◌, ◌%◌, ◌^◌, ◌<◌, ◌≤◌, ◌⊎◌, inl, inr, ⊎_elim, Bool, true, false, not, ◌&&◌, ◌||◌, List, [], ◌∷◌, length, nat_eq, nat_lt, refl, sym, ap, ap₂, ◌∙◌, subst, arith, pow_pos}
+use Rattle.std.proofs.Common.{◌≡◌, ℕ, zero, suc, ◌+◌, ◌-◌, ◌*◌, ◌/◌, ◌%◌, ◌^◌, ◌<◌, ◌≤◌, ◌⊎◌, inl, inr, ⊎_elim, Bool, true, false, not, ◌&&◌, ◌||◌, List, [], ◌∷◌, length, nat_eq, nat_lt, refl, sym, ap, ap₂, ◌∙◌, subst, arith, pow_pos, nat_le}
 use Rattle.std.proofs.lemmas.Bool.Decides.{nat_tests}
 use Rattle.std.proofs.lemmas.Nat.{div-add-mod', div-mul-add, mod_below, pow-add}
 use Rattle.std.proofs.lemmas.Nat.Gcd.{dvd_of_mod-eq-zero}
@@ -181,7 +181,7 @@ module _ (i : Image) (t : Tables) (w : Grounds i t) where
 
   -- what a region of data holds
   data_held : (n srd : ℕ) (rights : Rights) (g : Region) (a : ℕ) → n < 16 → Form n srd rights g → holds_data i t g ≡ true → Held g a → Apart a
-  data_held n srd rights g a few f d h = either (nat_lt (size_log g) 8 && is_data_range i t (base_of g) (size_of g)) (Rattle.std.proofs.Common.nat_le 8 (size_log g) && eighths_hold_data i t g 8) d whole parted
+  data_held n srd rights g a few f d h = either (nat_lt (size_log g) 8 && is_data_range i t (base_of g) (size_of g)) (nat_le 8 (size_log g) && eighths_hold_data i t g 8) d whole parted
     where
       b : (base_of g ≡ a / 2 ^ size_log g * 2 ^ size_log g) × (base_of g ≤ a) × (a < base_of g + 2 ^ size_log g)
       b = block_of n srd rights g a few f h
@@ -193,11 +193,11 @@ module _ (i : Image) (t : Tables) (w : Grounds i t) where
       whole : (nat_lt (size_log g) 8 && is_data_range i t (base_of g) (size_of g)) ≡ true → Apart a
       whole e = data_apart (base_of g) (size_of g) a (both (nat_lt (size_log g) 8) (is_data_range i t (base_of g) (size_of g)) e).1 b.1 b.2
 
-      parted : (Rattle.std.proofs.Common.nat_le 8 (size_log g) && eighths_hold_data i t g 8) ≡ true → Apart a
+      parted : (nat_le 8 (size_log g) && eighths_hold_data i t g 8) ≡ true → Apart a
       parted e = ⊎_elim (λ x. absurd (taken x)) (λ x. data_apart (base_of g + k * (size_of g / 8)) (size_of g / 8) a x low high) (eighth_data g 8 k small p.1)
         where
-          p : (Rattle.std.proofs.Common.nat_le 8 (size_log g) ≡ true) × (eighths_hold_data i t g 8 ≡ true)
-          p = both (Rattle.std.proofs.Common.nat_le 8 (size_log g)) (eighths_hold_data i t g 8) e
+          p : (nat_le 8 (size_log g) ≡ true) × (eighths_hold_data i t g 8 ≡ true)
+          p = both (nat_le 8 (size_log g)) (eighths_hold_data i t g 8) e
 
           eight : 8 ≤ size_log g
           eight = leb-true 8 (size_log g) p.0

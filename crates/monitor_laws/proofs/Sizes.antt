@@ -1,5 +1,5 @@
 -- The size of the tables' block is a power of two.
-use Rattle.std.proofs.Common.{◌≡◌, ℕ, zero, suc, ◌+◌, ◌-◌, ◌^◌, ◌≤◌, ◌⊎◌, inl, inr, ⊎_elim, Bool, true, false, List, [], ◌∷◌, map, max, cond, Some, refl, ap, ◌∙◌, arith, pow_pos}
+use Rattle.std.proofs.Common.{◌≡◌, ℕ, zero, suc, ◌+◌, ◌-◌, ◌^◌, ◌≤◌, ◌⊎◌, inl, inr, ⊎_elim, Bool, true, false, List, [], ◌∷◌, map, max, cond, Some, refl, ap, ◌∙◌, arith, pow_pos, nat_le}
 use Rattle.std.proofs.lemmas.Bool.Decides.{nat_tests}
 use Rattle.std.proofs.lemmas.Nat.{pow-add}
 use Rattle.std.specs.Prelude.{find, unwrap_or}
@@ -34,7 +34,7 @@ found_size test (x ∷ xs) d e h = by_test (test x) (found_size test xs d e.1 h)
 
 block_size_is : (n : ℕ) → IsSize (block n)
 unfolding block least_power
-block_size_is n = found_size (λ k. Rattle.std.proofs.Common.nat_le n k) powers_of_two (2 ^ 32) (each_size 5 28 (omega arith)) (size_of_power 32 (omega arith))
+block_size_is n = found_size (λ k. nat_le n k) powers_of_two (2 ^ 32) (each_size 5 28 (omega arith)) (size_of_power 32 (omega arith))
 
 max_is : (a b : ℕ) → (max a b ≡ a) ⊎ (max a b ≡ b)
 max_is a b = grind (arith, nat_tests)

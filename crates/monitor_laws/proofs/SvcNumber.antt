@@ -12,18 +12,14 @@ use Rattle.machine_model.specs.State.{by_mpu, is_unprivileged}
 use Rattle.monitor_steps.specs.Steps.{PrivilegedSteps}
 use Rattle.monitor_steps.specs.Core.{Core}
 use Rattle.monitor_steps.specs.Effect.{Outcome, Halted, AtReturn}
-use Rattle.monitor_steps.specs.Safe.{Rule}
 use Rattle.monitor_steps.proofs.Within.{GivesWithin, const_within, alu_within, at_within, more_within, yes_within, no_within, next_within, halt_within, load_within, load_flash_within}
-use Rattle.monitor_model.specs.declared.tables.Tables.{Tables}
 use Rattle.monitor_model.specs.Records.{stack_end}
-use Rattle.monitor_model.specs.Area.{HasTables}
-use Rattle.monitor_model.specs.Placed.{Placed}
 use Rattle.monitor_program.specs.Constants.{Constants, constants_with}
 use Rattle.monitor_program.specs.Opening.{opened}
 use Rattle.monitor_program.specs.Svc.{svc_number, by_number as lists_by_number, svc}
 use Rattle.monitor_laws.proofs.Off.{core, with_unit, IsOff, open_while_off}
 use Rattle.monitor_laws.proofs.Placement.{writable}
-use Rattle.monitor_laws.proofs.Opened.{Handles, FrameIsOpen, opened_within}
+use Rattle.monitor_laws.proofs.Opened.{FrameIsOpen, opened_within, HandlerPremises}
 use Rattle.monitor_laws.proofs.Unlend.{unlend_within}
 
 -- SVC #n stands in flash before a return address
@@ -38,7 +34,9 @@ low_byte : (o n : ℕ) (flash : List ℕ) → read 2 o flash ≡ 0xDF00 + n → 
 unfolding read
 low_byte o n flash h b = omega (arith, h, b)
 
-module _ (i : Image) (t : Tables) (p : Placed i t) (has : HasTables i t) (stub : ℕ) (Good : ProtectionState → Type 0) (Allowed : Rule) {entry_top : ℕ} (handles : Handles i t entry_top Allowed) (good : (q : ProtectionState) → IsOff true q → Good q) where
+module _ (premises : HandlerPremises) where
+  open premises use {installed, installed.{image as i, tables as t, placed as p, stub}, Good, Allowed, entry_top, handles}
+
   abbrev k : Constants
   k = constants_with stub t
 
@@ -56,15 +54,15 @@ module _ (i : Image) (t : Tables) (p : Placed i t) (has : HasTables i t) (stub :
   abbrev pub numbered : PrivilegedSteps → PrivilegedSteps
   numbered rest = opened k (svc_number rest)
 
-  module _ (msp psp : ℕ) (u : FaultStatus) where
+  module _ {msp psp : ℕ} {u : FaultStatus} where
     -- the number into r5, the return address in r4: 54 steps
-    pub numbered_within : {b : ℕ} {s : PrivilegedSteps} {Q : Outcome → Type 0} (q : ProtectionState) (o n : ℕ) (m : List ℕ) (a0 a1 a2 a3 a4 a5 a6 a7 : ℕ) → q.handler ≡ true → is_unprivileged q ≡ false → psp ≡ i.ram_base + o → o % 4 ≡ 0 → o < 2 ^ 31 → read 4 (block + 4) m ≤ stack_end t → read 4 (block + 4) m ≤ entry_top → Called i (read 4 (o + 24) m) n →
+    pub numbered_within : {b : ℕ} {s : PrivilegedSteps} {Q : Outcome → Type 0} {q : ProtectionState} (o n : ℕ) {m : List ℕ} {a0 a1 a2 a3 a4 a5 a6 a7 : ℕ} → q.handler ≡ true → is_unprivileged q ≡ false → psp ≡ i.ram_base + o → o % 4 ≡ 0 → o < 2 ^ 31 → read 4 (block + 4) m ≤ stack_end t → read 4 (block + 4) m ≤ entry_top → Called i (read 4 (o + 24) m) n →
         ((d : Core) → d.ram ≡ m → (FrameIsOpen i t o m → ⊥) → Q (Halted 4 d)) →
         ((q1 : ProtectionState) → q1 ≡ with_unit q (record q.mpu { control = 0 }) → IsOff true q1 → FrameIsOpen i t o m → W b s [] (core msp psp q1 u m psp k.block k.stack (read 4 (block + 4) m) (read 4 (o + 24) m) n MPU_CTRL 0) Q) →
         W (54 + b) (numbered s) [] (core msp psp q u m a0 a1 a2 a3 a4 a5 a6 a7) Q
-    numbered_within {b} {s} {Q} q o n m a0 a1 a2 a3 a4 a5 a6 a7 h un ep ao small et below called refuse go =
+    numbered_within {b} {s} {Q} o n {m} h un ep ao small et below called refuse go =
         more_within
-        (opened_within i t p has stub Good Allowed handles good msp psp u q o m a0 a1 a2 a3 a4 a5 a6 a7 h un ep ao small et below refuse (λ q1 v4 eq off f.
+        (opened_within premises o h un ep ao small et below refuse (λ q1 v4 eq off f.
         load_within p.rules (o + 24) (open_while_off q1 off.control) (frame_at ep) (aligned ao) (room f.high) (handles.stack_load _ (o + 24) (later f.low) (earlier f.high) (at_entry f.high)) (λ x4 e4.
         const_within (alu_within (λ x5 e5.
         load_flash_within p.rules called.offset {z = Byte} (open_while_off q1 off.control) (before x4 x5 e4 e5) (omega arith) (inside called.room) (handles.plain.flash _ 1 called.offset (one called.room)) (λ y5 f5.
@@ -78,7 +76,7 @@ module _ (i : Image) (t : Tables) (p : Placed i t) (has : HasTables i t) (stub :
         aligned a = omega (arith, a)
 
         room : i.ram_base + o + 32 ≤ read 4 (block + 4) m → o + 24 + 4 ≤ i.ram_size
-        room x = let a = (writable i t p has stub).stack_inside.1 in omega (arith, x, a, et)
+        room x = let a = (writable installed).stack_inside.1 in omega (arith, x, a, et)
 
         later : t.stack.base ≤ i.ram_base + o → t.stack.base ≤ i.ram_base + (o + 24)
         later l = omega (arith, l)
@@ -98,16 +96,16 @@ module _ (i : Image) (t : Tables) (p : Placed i t) (has : HasTables i t) (stub :
         one : called.offset + 2 ≤ length i.flash → called.offset + 1 ≤ length i.flash
         one a = omega (arith, a)
 
-    pub number_within : {b : ℕ} {Q : Outcome → Type 0} (q : ProtectionState) (o n : ℕ) (m : List ℕ) (a0 a1 a2 a3 a4 a5 a6 a7 : ℕ) → q.handler ≡ true → is_unprivileged q ≡ false → psp ≡ i.ram_base + o → o % 4 ≡ 0 → o < 2 ^ 31 → read 4 (block + 4) m ≤ stack_end t → read 4 (block + 4) m ≤ entry_top → Called i (read 4 (o + 24) m) n →
+    pub number_within : {b : ℕ} {Q : Outcome → Type 0} {q : ProtectionState} (o n : ℕ) {m : List ℕ} {a0 a1 a2 a3 a4 a5 a6 a7 : ℕ} → q.handler ≡ true → is_unprivileged q ≡ false → psp ≡ i.ram_base + o → o % 4 ≡ 0 → o < 2 ^ 31 → read 4 (block + 4) m ≤ stack_end t → read 4 (block + 4) m ≤ entry_top → Called i (read 4 (o + 24) m) n →
         ((d : Core) → d.ram ≡ m → (FrameIsOpen i t o m → ⊥) → Q (Halted 4 d)) →
         ((q1 : ProtectionState) → q1 ≡ with_unit q (record q.mpu { control = 0 }) → IsOff true q1 → FrameIsOpen i t o m → W b by_number [] (core msp psp q1 u m psp k.block k.stack (read 4 (block + 4) m) (read 4 (o + 24) m) n MPU_CTRL 0) Q) →
         W (54 + b) (svc k) [] (core msp psp q u m a0 a1 a2 a3 a4 a5 a6 a7) Q
-    number_within q o n m a0 a1 a2 a3 a4 a5 a6 a7 h un ep ao small et below called refuse go =
-        numbered_within q o n m a0 a1 a2 a3 a4 a5 a6 a7 h un ep ao small et below called refuse go
+    number_within o n h un ep ao small et below called refuse go =
+        numbered_within o n h un ep ao small et below called refuse go
 
     -- above 3: halt 1
-    pub above_within : {Q : Outcome → Type 0} (q : ProtectionState) (n : ℕ) (m : List ℕ) (a0 a1 a2 a3 a4 a6 a7 : ℕ) → 3 < n → ((d : Core) → d.ram ≡ m → Q (Halted 1 d)) → W 25 by_number [] (core msp psp q u m a0 a1 a2 a3 a4 n a6 a7) Q
-    above_within q n m a0 a1 a2 a3 a4 a6 a7 h f =
+    pub above_within : {Q : Outcome → Type 0} {q : ProtectionState} (n : ℕ) {m : List ℕ} {a0 a1 a2 a3 a4 a6 a7 : ℕ} → 3 < n → ((d : Core) → d.ram ≡ m → Q (Halted 1 d)) → W 25 by_number [] (core msp psp q u m a0 a1 a2 a3 a4 n a6 a7) Q
+    above_within n h f =
         more_within
         (const_within (no_within (other 3 (omega (arith, h))) (next_within (const_within (no_within (other 2 (omega (arith, h))) (next_within (const_within (no_within (other 0 (omega (arith, h))) (next_within (const_within (no_within (other 1 (omega (arith, h))) (next_within (halt_within (f _ refl)))))))))))))) (omega arith)
       where
@@ -115,12 +113,12 @@ module _ (i : Image) (t : Tables) (p : Placed i t) (has : HasTables i t) (stub :
         other j lt = search (nat_tests, arith)
 
     -- 3: unlend
-    pub three_within : {Q : Outcome → Type 0} (q : ProtectionState) (m : List ℕ) (a0 a2 a3 a4 a6 a7 : ℕ) → IsOff true q → Good (with_unit q (record q.mpu { control = 5 })) →
+    pub three_within : {Q : Outcome → Type 0} {q : ProtectionState} {m : List ℕ} {a0 a2 a3 a4 a6 a7 : ℕ} → IsOff true q → Good (with_unit q (record q.mpu { control = 5 })) →
         ((d : Core) → d.ram ≡ m → read 4 (block + 12) m ≡ read 4 (block + 16) m → Q (Halted 6 d)) →
         ((q1 : ProtectionState) (new : List ℕ) (v4 : ℕ) → q1 ≡ with_unit q (record q.mpu { control = 5 }) → read 4 (block + 12) m ≢ read 4 (block + 16) m → new ≡ write 4 (block + 12) (subtract (read 4 (block + 12) m) 1) m → length new ≡ length m →
         Q (AtReturn (core msp psp q1 u new a0 k.block a2 a3 v4 1 MPU_CTRL 5))) →
         W 30 by_number [] (core msp psp q u m a0 k.block a2 a3 a4 3 a6 a7) Q
-    three_within q m a0 a2 a3 a4 a6 a7 off on refuse go =
+    three_within off on refuse go =
         more_within
         (const_within (yes_within refl
-        (unlend_within i t p has stub Good Allowed handles good msp psp u q m a0 a2 a3 a4 3 3 a7 off on refuse go))) (omega arith)
+        (unlend_within premises off on refuse go))) (omega arith)

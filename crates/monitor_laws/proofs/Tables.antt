@@ -1,8 +1,9 @@
 -- The tables in flash, as the steps that write a compartment's regions take them.
-use Rattle.std.proofs.Common.{◌≡◌, ℕ, ◌+◌, ◌-◌, ◌*◌, ◌/◌, ◌%◌, ◌^◌, ◌<◌, ◌≤◌, ◌⊎◌, inl, inr, List, [], ◌∷◌, ◌++◌, map, length, min, refl, sym, ap, ap₂, ◌∙◌, subst, arith}
+use Rattle.std.proofs.Common.{◌≡◌, ℕ, ◌+◌, ◌-◌, ◌*◌, ◌/◌, ◌%◌, ◌^◌, ◌<◌, ◌≤◌, ◌⊎◌, inl, inr, List, [], ◌∷◌, ◌++◌, map, length, min, refl, sym, ap, ap₂, ◌∙◌, subst, arith, length-append}
 use Rattle.std.specs.Prelude.{flat_map, ◌↔◌}
 use Rattle.std.specs.Int.{trailing_zeros, w32, bit_at}
 use Rattle.std.specs.Int.Count.{count_trailing_zeros}
+use Rattle.std.proofs.lemmas.Bool.Decides.{nat_tests}
 use Rattle.machine_protection.specs.declared.region.Region.{Region}
 use Rattle.machine_protection.specs.RegionWords.{region_of, size_field}
 use Rattle.machine_protection.specs.Registers.{Registers}
@@ -65,7 +66,7 @@ slot_words (g ∷ gs) = let h = slot_words gs in omega (arith, h)
 
 record_length : (s : ℕ) (c : CompRecord) → length c.slots ≡ s → length (compartment_words c) ≡ 2 * s + 4
 record_length s c e =
-    let a = Rattle.std.proofs.Common.length-append (flat_map region_words c.slots) (c.mask ∷ c.reads ∷ []) in
+    let a = length-append (flat_map region_words c.slots) (c.mask ∷ c.reads ∷ []) in
     let b = slot_words c.slots in
     omega (arith, a, b, e)
 
@@ -79,7 +80,7 @@ two_words [] = tt
 two_words (x ∷ xs) = (refl, two_words xs)
 
 pub least_of : (a b : ℕ) → b ≤ a → min a b ≡ b
-least_of a b h = search (arith, Rattle.std.proofs.lemmas.Bool.Decides.nat_tests)
+least_of a b h = search (arith, nat_tests)
 
 module _ (i : Image) (t : Tables) (w : Writable i t) (stub : ℕ) where
   abbrev pub k : Constants
