@@ -101,7 +101,7 @@ module _ (installed : Installed) (thread : State) (Good : ProtectionState → Ty
       at : (x : ℕ) → x ≡ CFSR → x + 4 * 0 ≡ CFSR
       at x h = omega (arith, h)
 
-  module _ (msp psp : ℕ) (u : FaultStatus) where
+  module _ {msp psp : ℕ} {u : FaultStatus} where
     -- ---- by the width in r6
 
     pub store_by_width : (z : Width) (ao : ℕ) {n : ℕ} {s : PrivilegedSteps} {ks : List PrivilegedSteps} {Q : Outcome → Type 0} {q : ProtectionState} {m : List ℕ} {a0 a1 a2 a3 : ℕ} (a : ℕ) {a5 a7 : ℕ} → IsOff true q → a ≡ i.ram_base + ao → (i.ram_base + ao) % byte_count z ≡ 0 → ao < i.ram_size →

@@ -252,7 +252,7 @@ module _ (premises : HandlerPremises)
             save_within premises d a.off a.shallow (depth1 m1 w1) (z1 ∙ a.as_long) psp_small (λ y6 y7 m2 s.
             frame_within premises o (rounded t psp - i.ram_base - 32) top (g.entry - 1) (rounded t psp) a.off a.at a.frame a.below fo_frame fo_apart fo_is (top2 m1 m2 w1 s) (wanted2 m1 m2 w1 s) (omega arith) (s.changed.as_long ∙ z1 ∙ a.as_long) (λ m3 r.
             entered_within premises d g.compartment (rounded t psp) (rounded t psp - i.ram_base - 32) a.off a.shallow compartment_small top_small (r.changed.as_long ∙ s.changed.as_long ∙ z1 ∙ a.as_long) fo_frame.aligned (λ m4 z7 c.
-            tables_within i p.rules k Good Allowed true handles.plain good msp (i.ram_base + (rounded t psp - i.ram_base - 32)) u g.compartment (record_at i t w stub g.compartment) z.eighths (rounded t psp) (compartment_at t g.compartment).code (compartment_at t g.compartment).slots a.off (shaped i t w stub) (has_compartment i t w stub g.compartment is_entry.compartment_in) compartment_small z.some most (top_is i t w stub z.eighths (rounded t psp) z.at) (λ q1 y2 v6 v7 e1 off1.
+            tables_within i p.rules k Good Allowed true handles.plain good g.compartment (record_at i t w stub g.compartment) z.eighths (rounded t psp) (compartment_at t g.compartment).code (compartment_at t g.compartment).slots a.off (shaped i t w stub) (has_compartment i t w stub g.compartment is_entry.compartment_in) compartment_small z.some most (top_is i t w stub z.eighths (rounded t psp) z.at) (λ q1 y2 v6 v7 e1 off1.
             closed_within premises off1 (on q1 g.compartment (rounded t psp) is_entry.compartment_in off1.mode (regions_are q1 e1)) (λ q2 e2.
             f _ (record {
               msp_is = refl;

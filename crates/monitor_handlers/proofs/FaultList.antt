@@ -231,14 +231,14 @@ module _ (installed : Installed) (thread : State) (Good : ProtectionState → Ty
             W 32 (stored finished) ks (core msp psp q u m psp v1 v2 0 a x w v7) StoreEnds
         stored_within v1 v2 v7 x e ex true f =
             let l = found (compartment_at t b.current).mask w e in
-            store_by_width installed thread Good good msp psp u z (a - i.ram_base) a off (in_ram (compartment_at t b.current).mask w l) (aligned_is z (compartment_at t b.current).mask l f) (in_size (compartment_at t b.current).mask z l)
+            store_by_width installed thread Good good z (a - i.ram_base) a off (in_ram (compartment_at t b.current).mask w l) (aligned_is z (compartment_at t b.current).mask l f) (in_size (compartment_at t b.current).mask z l)
             (λ c y. subst (λ n. HandlerRule i t thread Write c w n) (in_ram (compartment_at t b.current).mask w l) (may_store w e c y))
             (λ m1 y7 w1 z1.
-            finished_within installed thread Good good msp psp u o top r off ep io below (top_stays w x m1 (compartment_at t b.current).mask l w1) cause on good_on (λ d y.
+            finished_within installed thread Good good o top r off ep io below (top_stays w x m1 (compartment_at t b.current).mask l w1) cause on good_on (λ d y.
             subst (λ y. Ends y (AtReturn d)) (sym (store_lent e true f)) (d, refl, subst (λ n. IsDone msp psp r u (moved_on i psp n) d) (w1 ∙ ap (λ v. write w (a - i.ram_base) v m) (value_is x ex)) y, refl, refl, store_stays l, opens)))
         stored_within v1 v2 v7 x e ex false f =
             more_within
-            (store_by_width_stops installed thread Good good msp psp u z a a_word f (may_store w e)
+            (store_by_width_stops installed thread Good good z a a_word f (may_store w e)
             (λ d y. subst (λ y. Ends y (Stopped Unaligned d)) (sym (store_lent e false f)) (d, refl, y))) (omega arith)
 
         pub stores_within : {ks : List PrivilegedSteps} {a2 a3 a4 a5 a7 : ℕ} → W 1600 (stores k) ks (core msp psp q u m psp k.block a2 a3 a4 a5 w a7) StoreEnds
@@ -277,15 +277,15 @@ module _ (installed : Installed) (thread : State) (Good : ProtectionState → Ty
             W 33 (loaded ▸ Store Word 5 0 frame_r0 ▸ finished) ks (core msp psp q u m psp v1 v2 0 a x w v7) LoadEnds
         loaded_within v1 v2 v7 x e true f =
             let l = found (compartment_at t b.current).reads w e in
-            load_by_width installed thread Good good msp psp u z (a - i.ram_base) a off (in_ram (compartment_at t b.current).reads w l) (aligned_is z (compartment_at t b.current).reads l f) (in_size (compartment_at t b.current).reads z l)
+            load_by_width installed thread Good good z (a - i.ram_base) a off (in_ram (compartment_at t b.current).reads w l) (aligned_is z (compartment_at t b.current).reads l f) (in_size (compartment_at t b.current).reads z l)
             (λ c y. subst (λ n. HandlerRule i t thread Read c w n) (in_ram (compartment_at t b.current).reads w l) (may_load w e c y))
             (λ v y7 ev.
             frame_store_within premises o top 0 off io ep refl refl (λ m1 w1 z1.
-            finished_within installed thread Good good msp psp u o top r off ep io below (frame_top v m1 w1) cause on good_on (λ d y.
+            finished_within installed thread Good good o top r off ep io below (frame_top v m1 w1) cause on good_on (λ d y.
             subst (λ y. Ends y (AtReturn d)) (sym (load_lent e true f)) (d, refl, subst (λ n. IsDone msp psp r u (moved_on i psp n) d) (result_is v m1 ev w1) y, refl, refl, load_stays, opens))))
         loaded_within v1 v2 v7 x e false f =
             more_within
-            (load_by_width_stops installed thread Good good msp psp u z a a_word f (may_load w e)
+            (load_by_width_stops installed thread Good good z a a_word f (may_load w e)
             (λ d y. subst (λ y. Ends y (Stopped Unaligned d)) (sym (load_lent e false f)) (d, refl, y))) (omega arith)
 
         pub lent_load_within : {ks : List PrivilegedSteps} {a2 a3 a4 a5 a7 : ℕ} → W 1600 (lent_load k) ks (core msp psp q u m psp k.block a2 a3 a4 a5 w a7) LoadEnds

@@ -218,7 +218,7 @@ module _ (installed : Installed) where
           more_within
           (copy_within (block_load_within premises 0 off refl refl (λ x5 e5.
           at_within (ap (λ x. core msp psp q u m psp k.block w a3 a4 x w a7) (e5 ∙ ec))
-          (record_of_within i p.rules k Good (HandlerRule i t thread) true handles.plain good msp psp u cur (record_at i t (writable installed) stub cur) slots_least slots_most small at_record low_flash (λ v6 v7 e6.
+          (record_of_within i p.rules k Good (HandlerRule i t thread) true handles.plain good cur (record_at i t (writable installed) stub cur) slots_least slots_most small at_record low_flash (λ v6 v7 e6.
           load_flash_within p.rules (record_at i t (writable installed) stub cur + 4 * field) {z = Word} (open_while_off q off.control) (at_field v6 e6) flash_al in_flash (handles.plain.flash _ 4 (record_at i t (writable installed) stub cur + 4 * field) room) (λ y5 f5.
           copy_within (frame_load_within premises o top 1 off io below ep refl et (λ x4 e4.
           block_load_within premises 3 off refl refl (λ x3 e3.

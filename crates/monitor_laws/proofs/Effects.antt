@@ -79,7 +79,7 @@ tables_are_written i t stub current top c w m =
     given : GivesWithin by_mpu i every any 140 (tables_of (constants_with stub t) End) [] c Done
     given =
         at_within (by_parts c top current m.low_count m.on_msp m.top_is m.current_is)
-        (tables_within i w.rules (constants_with stub t) every any c.protection.handler allows (λ q o. tt) c.sp c.other_sp c.status current (record_at i t w stub current) n top (compartment_at t current).code (compartment_at t current).slots off (shaped i t w stub) (has_compartment i t w stub current m.current_in) few m.is_top.2 most (top_is i t w stub n top m.is_top.1)
+        (tables_within i w.rules (constants_with stub t) every any c.protection.handler allows (λ q o. tt) current (record_at i t w stub current) n top (compartment_at t current).code (compartment_at t current).slots off (shaped i t w stub) (has_compartment i t w stub current m.current_in) few m.is_top.2 most (top_is i t w stub n top m.is_top.1)
         (λ p v2 v6 v7 e o. end_within (
           _,
           refl,

@@ -101,7 +101,7 @@ module _ (premises : HandlerPremises) where
         let done : HasLeft installed o m m6 d back current top mark = all_left installed o m m5 m6 v2 v3 v6 d back current top mark (five_others installed m m1 m2 m3 m4 m5 n4 v1 v2 v3 v4 five) say lv.as_long ib io w6 x6 in
         write_psp_within (on_msp q off.privileged)
         (at_within (same v5 v2 v3 q6 v6 m6 (whole_word installed v5 back v5_is ib.aligned) say.v3_is say.v2_is)
-        (tables_within i p.rules k Good Allowed true handles.plain good msp (i.ram_base + back) u current (record_at i t w stub current) n top (compartment_at t current).code (compartment_at t current).slots off (shaped i t w stub) (has_compartment i t w stub current lt) few is.2 most (top_is i t w stub n top is.1) (λ q1 y2 y6 y7 e1 off1.
+        (tables_within i p.rules k Good Allowed true handles.plain good current (record_at i t w stub current) n top (compartment_at t current).code (compartment_at t current).slots off (shaped i t w stub) (has_compartment i t w stub current lt) few is.2 most (top_is i t w stub n top is.1) (λ q1 y2 y6 y7 e1 off1.
         closed_within premises off1 (on q1 e1 (regions_are q1 e1)) (λ q2 e2.
         f q2 m6 MPU_RBAR y2 v5 MPU_CTRL 5 (e2 ∙ ap (λ p. with_unit p (record p.mpu { control = 5 })) e1) (ap (λ p. p.mpu.regions) e2 ∙ regions_are q1 e1) done))))))))))))))))))))))))) (omega arith)
       where

@@ -52,7 +52,7 @@ module _ (i : Image) (rules : ObeysRules i) (t : Constants) (Good : ProtectionSt
   abbrev W : ℕ → PrivilegedSteps → List PrivilegedSteps → Core → (Outcome → Type 0) → Type 0
   W n s ks c Q = GivesWithin by_mpu i Good Allowed n s ks c Q
 
-  module _ (msp psp : ℕ) (u : FaultStatus) where
+  module _ {msp psp : ℕ} {u : FaultStatus} where
     -- both words of a region
     pub region_within : (g : Region) (o fo : ℕ) {b w : ℕ} {k : PrivilegedSteps} {ks : List PrivilegedSteps} {Q : Outcome → Type 0} {q : ProtectionState} {m : List ℕ} {a1 a2 a3 a4 a5 a6 a7 : ℕ} → IsOff h q → a6 ≡ i.flash_base + o → fo ≡ o + 4 * w → o % 4 ≡ 0 → fo + 8 ≤ length i.flash →
         read 4 fo i.flash ≡ g.rbar → read 4 (fo + 4) i.flash ≡ g.rasr →
