@@ -5,7 +5,7 @@ use Rattle.std.proofs.lemmas.Bool.{leb-true, le-leb, and_parts as both}
 use Rattle.base_ranges.specs.Ranges.{is_inside}
 use Rattle.machine_devices.specs.declared.image.Image.{Image}
 use Rattle.plan_model.specs.Blocks.{block}
-use Rattle.monitor_laws.proofs.Checked.{must_none, and_none}
+use Rattle.monitor_laws.proofs.Checked.{must_none, and_none as none_parts}
 use Rattle.monitor_model.specs.declared.tables.Tables.{Tables}
 use Rattle.monitor_model.specs.Records.{words_in}
 use Rattle.monitor_model.specs.Layout.{page_size, greatest_code, compartment_size, area_end, tables_size, initial_word_count}
@@ -41,10 +41,10 @@ in_turn (Some a) p q = refl
 
 pub keeps_limits : (i : Image) (h : Head) → h.inits < 2 ^ 32 → head_fails i h ≡ None → KeepsLimits h
 keeps_limits i h few e =
-    let a = and_none (must (nat_le 1 h.comps && nat_le h.comps 64) (i.flash_base + page_size)) _ e in
-    let b = and_none (must (nat_le h.sites 4096) (i.flash_base + page_size + 4)) _ a.1 in
-    let c = and_none (must (nat_le h.targets (64 * h.sites)) (i.flash_base + page_size + 8)) _ b.1 in
-    let d = and_none (must (nat_le h.lends 32) (i.flash_base + page_size + 12)) _ c.1 in
+    let a = none_parts (must (nat_le 1 h.comps && nat_le h.comps 64) (i.flash_base + page_size)) _ e in
+    let b = none_parts (must (nat_le h.sites 4096) (i.flash_base + page_size + 4)) _ a.1 in
+    let c = none_parts (must (nat_le h.targets (64 * h.sites)) (i.flash_base + page_size + 8)) _ b.1 in
+    let d = none_parts (must (nat_le h.lends 32) (i.flash_base + page_size + 12)) _ c.1 in
     let n = both (nat_le 1 h.comps) (nat_le h.comps 64) (must_none _ (i.flash_base + page_size) a.0) in
     let s = leb-true h.sites 4096 (must_none _ (i.flash_base + page_size + 4) b.0) in
     let t = leb-true h.targets (64 * h.sites) (must_none _ (i.flash_base + page_size + 8) c.0) in
@@ -60,7 +60,7 @@ keeps_limits i h few e =
 -- there is some compartment
 pub has_some : (i : Image) (h : Head) → head_fails i h ≡ None → 1 ≤ h.comps
 has_some i h e =
-    let a = and_none (must (nat_le 1 h.comps && nat_le h.comps 64) (i.flash_base + page_size)) _ e in
+    let a = none_parts (must (nat_le 1 h.comps && nat_le h.comps 64) (i.flash_base + page_size)) _ e in
     let n = both (nat_le 1 h.comps) (nat_le h.comps 64) (must_none _ (i.flash_base + page_size) a.0) in
     leb-true 1 h.comps n.0
 
