@@ -1,23 +1,9 @@
 -- A run takes one number of steps, and what it does behind an end is nothing.
-use Rattle.std.proofs.Common.{◌≡◌, ◌≢◌, ℕ, ◌+◌, ◌-◌, ◌<◌, ◌≤◌, ◌++◌, Option, Some, None, inl, inr, refl, sym, ap, ◌∙◌, arith, append-nil}
+use Rattle.std.proofs.Common.{◌≡◌, ◌≢◌, ℕ, ◌+◌, ◌-◌, ◌≤◌, ◌++◌, Option, Some, None, inl, inr, refl, sym, ap, ◌∙◌, arith, append-nil}
 use Rattle.std.proofs.lemmas.Bool.{cases_order}
 use Rattle.base_words.specs.Runs.{run, events}
 use Rattle.base_words.proofs.Runs.{run-add, events-add, run_still, events_still}
 use Rattle.aces_selftest.specs.TakesSteps.{TakesSteps}
-
-module _ {S E : Type 0} (ending : S → Option E) (step : S → S) (limit : ℕ) (s : S) where
-  not_fewer : (n m : ℕ) → TakesSteps ending step limit s n → TakesSteps ending step limit s m → n < m → ⊥
-  not_fewer n m a b less = let few = b.few in a.ends (omega arith) (b.goes n less)
-
-  pub one_length : (n m : ℕ) → TakesSteps ending step limit s n → TakesSteps ending step limit s m → n ≡ m
-  one_length n m a b =
-      elim (cases_order n m) [
-        | inl e ↦ e
-        | inr (inl h) ↦ absurd (not_fewer n m a b h)
-        | inr (inr h) ↦ absurd (not_fewer m n b a h)
-      ]
-
--- ---- a run that has ended behind so many steps has behind those that it takes
 
 missing : {E : Type 0} (o : Option E) → o ≢ None → (e : E) × (o ≡ Some e)
 missing None h = absurd (h refl)

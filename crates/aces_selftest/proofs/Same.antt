@@ -4,7 +4,7 @@ use Rattle.std.specs.Bool.{Decides}
 use Rattle.std.proofs.Common.{◌≡◌, ◌≢◌, ℕ, ◌+◌, ◌*◌, ◌++◌, List, Bool, true, false, Option, Some, None, refl, sym, ap, ◌∙◌, subst, arith}
 use Rattle.std.proofs.lemmas.Fmt.{decimal_digit}
 use Rattle.machine_devices.specs.declared.image.Image.{Image}
-use Rattle.base_words.specs.Runs.{run, events}
+use Rattle.base_words.specs.Runs.{run}
 use Rattle.machine_model.specs.declared.state.End.{End}
 use Rattle.machine_model.specs.declared.state.End.TheVariants.{Limit}
 use Rattle.machine_model.specs.State.{State, by_mpu}

@@ -25,7 +25,7 @@ pub enum Command<'a> {
 }
 
 impl<'a> Command<'a> {
-    /// The command of these words; none where they are those of no command.
+    /// The command of these words; `None` where they ask for none.
     pub fn of_words(words: &'a [String]) -> Option<Command<'a>>
         ensures command { IfSome result (λ c. Asks (map string_bytes words.now) (request_of c)) }
         ensures usage { IfNone result (IsUsage (map string_bytes words.now)) }

@@ -18,14 +18,14 @@ pub enum FirmwareCommand<'a> {
     Why {
         firmware: &'a str,
     },
-    /// Runs the source of a firmware on a tape for at most so many steps, the compartments being those of a policy.
+    /// Runs the source of a firmware on a tape for at most so many steps, in the compartments of a policy.
     Source {
         firmware: &'a str,
         policy: Policy,
         tape: &'a str,
         steps: u32,
     },
-    /// Tells where the source of a firmware stands after at most so many steps on a tape, the compartments being those of a policy.
+    /// Tells where the source of a firmware stands after at most so many steps on a tape, in the compartments of a policy.
     Where {
         firmware: &'a str,
         policy: Policy,

@@ -10,7 +10,7 @@ use plan_model::Policy;
 /// A command on a firmware and a board, with what its words name.
 #[derive(Clone, Copy)]
 pub enum PlanCommand<'a> {
-    /// Writes the image of a firmware for a board, the compartments being those of a policy.
+    /// Writes the image of a firmware for a board, in the compartments of a policy.
     Compile {
         firmware: &'a str,
         board: &'a str,
@@ -23,7 +23,7 @@ pub enum PlanCommand<'a> {
         board: &'a str,
         policy: Policy,
     },
-    /// Bounds what the calls of a firmware take of a board's stack, the compartments being those of a policy.
+    /// Bounds what the calls of a firmware take of a board's stack, in the compartments of a policy.
     Stack {
         firmware: &'a str,
         board: &'a str,
@@ -35,7 +35,7 @@ pub enum PlanCommand<'a> {
         board: &'a str,
         policy: Policy,
     },
-    /// Tells what lies where in the image of a firmware on a board, the compartments being those of a policy.
+    /// Tells what lies where in the image of a firmware on a board, in the compartments of a policy.
     Symbols {
         firmware: &'a str,
         board: &'a str,

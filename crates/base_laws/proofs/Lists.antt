@@ -1,5 +1,5 @@
 -- Lists: what holds of each element, elements of joined lists, maps, filters and sums.
-use Rattle.std.proofs.Common.{◌≡◌, ℕ, zero, suc, ◌+◌, ◌<◌, ◌≤◌, Bool, true, false, ◌&&◌, ◌||◌, cond, List, [], ◌∷◌, ◌++◌, length, map, filter, take, drop, get_or, slice_index_or, Some, is_some, refl, ap, arith, sym, subst, sum}
+use Rattle.std.proofs.Common.{◌≡◌, ℕ, zero, suc, ◌+◌, ◌<◌, ◌≤◌, Bool, true, false, ◌&&◌, ◌||◌, cond, List, [], ◌∷◌, ◌++◌, length, map, filter, take, drop, get_or, Some, is_some, refl, ap, arith, sym, sum}
 use Rattle.std.specs.List.{list_any, list_all, position_from, AllZip, Contains}
 use Rattle.std.proofs.lemmas.Bool.{and_parts}
 use Rattle.base_laws.specs.Lists.{Each}
@@ -31,15 +31,6 @@ each_left P (x ∷ xs) ys h = (h.0, each_left P xs ys h.1)
 pub each_right : {A : Type 0} (P : A → Type 0) (xs ys : List A) → Each P (xs ++ ys) → Each P ys
 each_right P [] ys h = h
 each_right P (x ∷ xs) ys h = each_right P xs ys h.1
-
-each_there : {A : Type 0} (P : A → Type 0) (xs : List A) (k : ℕ) (d x : A) → k < length xs → slice_index_or xs k d ≡ x → Each P xs → P x
-each_there P [] k d x l e h = absurd (omega arith)
-each_there P (y ∷ ys) zero d x l e h = subst P e h.0
-each_there P (y ∷ ys) (suc k) d x l e h = each_there P ys k d x (omega arith) e h.1
-
--- an element that the list contains
-pub each_contained : {A : Type 0} (P : A → Type 0) (xs : List A) (x : A) → Contains xs x → Each P xs → P x
-each_contained P xs x c h = each_there P xs c.0 x x c.1 c.2 h
 
 -- a test that each element passes
 pub each_from_list_all : {A : Type 0} (p : A → Bool) (xs : List A) → list_all p xs ≡ true → Each (λ x. p x ≡ true) xs

@@ -43,7 +43,7 @@ pub struct Places {
     pub entries: ListVec<u32>,
     /// The function's calls that may go to another compartment.
     pub sites: ListVec<CallSite>,
-    /// Of each local of the function, the number by which it is lent to other compartments, if it is.
+    /// The number by which each local of the function is lent to other compartments, if it is.
     pub lends: ListVec<Option<u32>>,
 }
 

@@ -89,7 +89,7 @@ fn icall_size(crosses: bool, args: &[usize]) -> Option<u32>
     with_args(if crosses { 8 } else { 6 }, args)
 }
 
-/// The bytes of the call at a place up to the address that it returns to; 0 of what is no call. Only of a call it is asked whether
+/// The bytes of the call at a place up to the address that it returns to; 0 of what is no call. Only a call is asked whether
 /// it may go to another compartment.
 pub(crate) fn resume_size(
     sites: &[CallSite],
@@ -209,7 +209,7 @@ fn block_size(
     insts.checked_add(exit_size(routine, lent, sequence.exit)?)
 }
 
-/// The bytes of the entry and of blocks of a function, the first having number 0.
+/// The bytes of the entry and of blocks of a function; the first has number 0.
 fn size_with(routine: &Routine, sites: &[CallSite], lent: u32, blocks: &[Sequence]) -> Option<u32>
     ensures { IfSome result (λ n. n ≡ sizes.entry_size (routine_of [] routine.now) lent + sizes.blocks_size (routine_of [] routine.now) sites.now lent 0 (map (sequence_of []) blocks.now)) }
 {

@@ -151,7 +151,7 @@ pub fn reach(
     to_place(routine, sites, lent, at, block, place)
 }
 
-/// How far behind the function's entry the halfword with the number of the site stands whose call is at a place that was reached.
+/// How far behind the function's entry the halfword with a site's number stands, by the place of its call, which was reached.
 pub fn number_offset(routine: &Routine, sites: &[CallSite], lent: u32, at: Reached) -> Option<u32>
     requires { IsReached (routine_of [] routine.now) sites.now lent at }
     ensures { IfSome result (λ n. n ≡ sizes.site_offset (routine_of [] routine.now) sites.now lent at.block at.place) }

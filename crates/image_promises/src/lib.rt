@@ -3,14 +3,14 @@
 
 pub mod audits;
 pub mod code;
-pub mod flash;
-pub mod globals;
+mod flash;
+mod globals;
 pub mod guards;
 pub mod images;
-pub mod initial;
+mod initial;
 pub mod needed;
 pub mod permissions;
 pub mod promises;
 pub mod regions;
-pub mod sites;
-pub mod tables;
+mod sites;
+mod tables;

@@ -6,7 +6,7 @@ mod data_lines;
 mod function_lines;
 pub mod laws;
 mod monitor_lines;
-pub mod rising;
+mod rising;
 mod site_lines;
 mod table_parts;
 mod whole;

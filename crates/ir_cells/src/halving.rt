@@ -18,7 +18,7 @@ pub fn last_at(fields: &[Field], at: u32) -> Option<usize>
     Some(behind - 1)
 }
 
-/// The last field of which the first cell has no greater number.
+/// The last field whose first cell has no greater number.
 pub fn last_cell(fields: &[Field], number: u32) -> Option<usize>
     requires { IsNonDecreasingBy (λ f. f.first_cell) fields.now }
     ensures { MatchOption result (IsFirstAbove (λ f. f.first_cell) fields.now number 0) (IsLastWithin (λ f. f.first_cell) fields.now number) }

@@ -3,6 +3,6 @@
 
 pub mod declared;
 pub mod files;
-pub mod periphs;
-pub mod structs;
+mod periphs;
+mod structs;
 mod tables;

@@ -17,7 +17,7 @@ use ir_model::firmware::Func;
 use ir_names::Names;
 use std::alloc::Global;
 
-/// The bindings of a function, no name being taken before.
+/// The checks of `bindings`, where no name is taken yet.
 #[tactic(auto, using(ir_check_scopes::proofs::Order::checks_in_order))]
 fn bindings_behind<'a>(
     scope: &Scope,

@@ -30,7 +30,7 @@ fn frame_bytes(registers: usize, locals: u64) -> u32
     }
 }
 
-/// Whether a function's frame is small enough, its locals having so many bytes.
+/// Whether a function's frame is small enough, by the bytes of its locals.
 pub fn frame(scope: &Scope, func: &Func, locals: u64) -> Result<(), CheckFault>
     requires locals { locals ≡ locals_size (known (firmware_of scope.now.firmware.now).structs) (func_of func.now).locals }
     requires most { locals ≤ local_limit * object_limit }

@@ -29,7 +29,7 @@ fn place_at(spot: CheckPlaceRef) -> Result<CheckPlace, AllocError>
     }
 }
 
-/// That something is wrong there.
+/// A fault of a kind at a place.
 pub fn fault(kind: CheckKind, spot: CheckPlaceRef) -> CheckFault
     ensures { IsFault result kind (place_of spot.entry) }
 {
@@ -39,7 +39,7 @@ pub fn fault(kind: CheckKind, spot: CheckPlaceRef) -> CheckFault
     }
 }
 
-/// That a name is not there.
+/// The fault of a missing name.
 pub fn unknown(name: &Name, spot: CheckPlaceRef) -> CheckFault
     ensures { IsFault result (CheckKind.Unknown name.now) (place_of spot.entry) }
 {
@@ -49,7 +49,7 @@ pub fn unknown(name: &Name, spot: CheckPlaceRef) -> CheckFault
     }
 }
 
-/// That a name is there already.
+/// The fault of a repeated name.
 pub fn twice(name: &Name, spot: CheckPlaceRef) -> CheckFault
     ensures { IsFault result (CheckKind.Twice name.now) (place_of spot.entry) }
 {

@@ -14,7 +14,7 @@ use ir_model::firmware::Func;
 use ir_model::types::Ty;
 use ir_types::callee::is_callee;
 
-/// The type of a register; of a name that no register has, `u32`.
+/// The type of a register; `u32` for a name that no register has.
 pub fn register_type<'s>(scope: &'s FuncScope<'s>, name: &Name) -> &'s Ty
     ensures { type_of result.now ≡ type_named (func_of scope.now.func.now) name.now }
 {

@@ -1,7 +1,7 @@
 //! Which token stands at a syntax fault of a text, and which ones may stand there.
 #![tactic(auto)]
 
-pub mod grammar;
+mod grammar;
 pub mod laws;
 mod stack;
 mod stuck;

@@ -2,10 +2,10 @@
 #![tactic(auto)]
 
 mod checked_firmwares;
-pub mod choices;
-pub mod draws;
+mod choices;
+mod draws;
 mod functions;
-pub mod make;
+mod make;
 mod naming;
 mod parts;
 pub mod tape;

@@ -27,7 +27,7 @@ fn behind_choices(seed: u32, size: u32) -> Draws
 }
 
 /// The recorded input of the firmware of a seed and a size, which has 1 to 200 functions that are drawn.
-
+/// Fails only for want of memory.
 pub fn tape(alloc: Global, seed: u32, size: u32) -> Result<Tape, AllocError>
     requires { size ≤ 200 }
     ensures { IfOk result (λ tape. tape ≡ taped seed size) }

@@ -63,7 +63,7 @@ impl Drop for StructLayout<'_> {
 }
 
 /// The layouts of structs, seen as the list of these structs. Each is laid out by those before it; a name means the first
-/// struct that has it, and a struct that is not there has no bytes.
+/// struct that has it, and an absent struct has no bytes.
 pub struct Layouts<'a> {
     pub(crate) names: Names<'a>,
     pub(crate) structs: Vec<StructLayout<'a>>,
@@ -209,7 +209,7 @@ impl<'a> Layouts<'a> {
         self.measure_below(self.len(), ty)
     }
 
-    /// A field of a struct by their names, as the firmware's definition has it; none where there is none.
+    /// A field of a struct by their names, as the firmware's definition has it; `None` if there is none.
     pub fn field(&self, of: &Name, field: &Name) -> Option<Field<'a>>
         ensures place { option_map place_of result ≡ place_named (fields_named (known (map struct_of self.now)) of.now) field.now }
         ensures offset { MatchOption result (offset_named (fields_named (known (map struct_of self.now)) of.now) field.now ≡ 0) (λ f. offset_named (fields_named (known (map struct_of self.now)) of.now) field.now ≡ f.at) }

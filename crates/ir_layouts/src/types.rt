@@ -23,7 +23,7 @@ impl<'a> Layouts<'a> {
         &self.structs[place]
     }
 
-    /// The place of the struct of a name among the first so many; none where none of them has it.
+    /// The place of the struct of a name among the first so many; `None` if none of them has it.
     pub fn place_below(&self, below: usize, name: &Name) -> Option<usize>
         ensures { MatchOption result (shape_named (known (map struct_of (take below self.now))) name.now ≡ empty) (IsPlaceBelow self.now below name.now) }
     {

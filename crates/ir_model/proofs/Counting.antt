@@ -1,5 +1,5 @@
 -- There is an extent exactly where every struct counts as declared and the size is within the limit.
-use Rattle.std.proofs.Common.{◌≡◌, ◌↔◌, ℕ, ◌+◌, ◌-◌, ◌*◌, ◌<◌, ◌≤◌, ◌⊎◌, inl, inr, Bool, true, false, ◌&&◌, List, [], ◌∷◌, ◌++◌, refl, sym, ap, ◌∙◌, Option, Some, None, option_and_then, bytes_eq, if◌then◌else◌, subst, IsTrue, IsSome, arith}
+use Rattle.std.proofs.Common.{◌≡◌, ℕ, ◌+◌, ◌-◌, ◌*◌, ◌<◌, ◌≤◌, ◌⊎◌, inl, inr, Bool, true, false, ◌&&◌, List, [], ◌∷◌, ◌++◌, refl, sym, ap, ◌∙◌, Option, Some, None, option_and_then, bytes_eq, if◌then◌else◌, subst, arith}
 use Rattle.std.proofs.lemmas.Bool.{cases_lt, le-leb}
 use Rattle.std.proofs.lemmas.Bool.Decides.{leb_tells}
 use Rattle.std.proofs.lemmas.Nat.{div-add-mod'}
@@ -8,7 +8,7 @@ use Rattle.ir_model.specs.declared.extent.TheConstants.{SIZE_LIMIT}
 use Rattle.ir_model.specs.Types.{PlainType, U8, U16, U32, Pointer, Array, Named, Callee}
 use Rattle.ir_model.specs.Plain.{PlainBinding, PlainStruct}
 use Rattle.ir_model.specs.Layout.{Shape, Known, empty, shape, shape_named, array_of, rounded_up, with_field, laid_out, field_places, known, known_behind}
-use Rattle.ir_model.specs.Extents.{Sized, extent_named, limited, of_many, extent, behind, closed, extent_behind, fields_extent, nothing_yet, sized_behind, sized, layout_of, pair_of, Counted, counted_named, is_counted, are_counted, counted_behind, counted, HasElements, EachHasElements, AllHaveElements, IsSized}
+use Rattle.ir_model.specs.Extents.{Sized, extent_named, limited, of_many, extent, behind, closed, extent_behind, fields_extent, nothing_yet, sized_behind, sized, Counted, counted_named, is_counted, are_counted, counted_behind, counted, HasElements, EachHasElements, AllHaveElements}
 use Rattle.ir_model.proofs.Alignments.{positive_first}
 
 abbrev extent_of : Shape → Extent
@@ -200,22 +200,3 @@ pub extent_tied : (ss : List PlainStruct) (t : PlainType) → AllHaveElements ss
     → Tied (extent (sized ss) t) (shape (known ss) t) (is_counted (counted ss) t)
 unfolding sized known counted
 extent_tied ss t a e = tie (sized_behind [] ss) (known_behind [] ss) (counted_behind [] ss) t (tables_behind [] [] [] ss tt a) e
-
-no_pair : (o : Option Extent) → o ≡ None → IsSome (pair_of o) → ⊥
-no_pair None h i = cc
-no_pair (Some x) h i = cc
-
-a_pair : (o : Option Extent) (e : Extent) → o ≡ Some e → IsSome (pair_of o)
-a_pair None e h = cc
-a_pair (Some x) e h = refl
-
-by_size : (o : Option Extent) (n : ℕ) → (SIZE_LIMIT < n → o ≡ None) → IsSome (pair_of o) → (SIZE_LIMIT < n) ⊎ (n ≤ SIZE_LIMIT) → n ≤ SIZE_LIMIT
-by_size o n h i (inl l) = absurd (no_pair o (h l) i)
-by_size o n h i (inr l) = l
-
-some_tied : (o : Option Extent) (s : Shape) (c : Bool) → Tied o s c → IsSome (pair_of o) ↔ (IsTrue c × (s.size ≤ SIZE_LIMIT))
-some_tied o s false h = (λ i. absurd (no_pair o h i), λ p. let e : false ≡ true = p.0 in cc)
-some_tied o s true h = (λ i. (refl, by_size o s.size h.1 i (cases_lt SIZE_LIMIT s.size)), λ p. a_pair o (extent_of s) (h.0 p.1))
-
-pub some_exactly : (ss : List PlainStruct) (t : PlainType) → AllHaveElements ss → HasElements t → IsSome (layout_of ss t) ↔ IsSized ss t
-some_exactly ss t a e = some_tied (extent (sized ss) t) (shape (known ss) t) (is_counted (counted ss) t) (extent_tied ss t a e)

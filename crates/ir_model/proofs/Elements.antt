@@ -1,12 +1,11 @@
 -- In a firmware within the limits every array has an element.
-use Rattle.std.proofs.Common.{◌≡◌, ℕ, zero, suc, ◌+◌, ◌<◌, List, [], ◌∷◌, ◌++◌, map, take, Option, None, subst, arith}
-use Rattle.ir_model.specs.declared.firmware.StructDecl.{StructDecl}
+use Rattle.std.proofs.Common.{◌≡◌, ℕ, zero, suc, ◌+◌, ◌<◌, List, [], ◌∷◌, ◌++◌, Option, None, arith}
 use Rattle.ir_model.specs.declared.token.Keyword.TheVariants.{Struct}
 use Rattle.ir_model.specs.declared.token.Mark.TheVariants.{OpenBrace, CloseBrace, Comma}
 use Rattle.ir_model.specs.declared.token.TextLimit.{TextLimit}
 use Rattle.ir_model.specs.declared.token.TextLimit.TheVariants as limit
 use Rattle.ir_model.specs.Types.{PlainType, U8, U16, U32, Pointer, Array, Named, Callee}
-use Rattle.ir_model.specs.Plain.{PlainBinding, PlainStruct, PlainFirmware, struct_of}
+use Rattle.ir_model.specs.Plain.{PlainBinding, PlainStruct, PlainFirmware}
 use Rattle.ir_model.specs.declared.token.Excess.{Excess}
 use Rattle.ir_model.specs.Tokens.{Key, Sign}
 use Rattle.ir_model.specs.Lines.{Line, marked, plain, name, counted, length_excess, type_tokens, binding_tokens, more_bindings, bindings_tokens, struct_lines, periph_lines, global_lines, file_lines, lines_of}
@@ -55,11 +54,3 @@ firmware_elements w h =
     (each_left (Each PassesNothing) (struct_lines 0 w.structs) (periph_lines 0 w.periphs)
     (each_left (Each PassesNothing) (struct_lines 0 w.structs ++ periph_lines 0 w.periphs) (global_lines 0 w.globals)
     (each_left (Each PassesNothing) (struct_lines 0 w.structs ++ periph_lines 0 w.periphs ++ global_lines 0 w.globals) (file_lines 0 0 w.files) h.tokens)))
-
-elements_before : (xs : List StructDecl) (n : ℕ) → AllHaveElements (map struct_of xs) → AllHaveElements (map struct_of (take n xs))
-elements_before xs zero h = tt
-elements_before [] (suc n) h = tt
-elements_before (x ∷ xs) (suc n) h = (h.0, elements_before xs n h.1)
-
-pub first_elements : (xs : List StructDecl) (w : PlainFirmware) (n : ℕ) → w.structs ≡ map struct_of xs → IsWithinLimits w → AllHaveElements (map struct_of (take n xs))
-first_elements xs w n e h = elements_before xs n (subst AllHaveElements e (firmware_elements w h))

@@ -2,7 +2,6 @@
 -- constants are words, and that its arrays have elements.
 use Rattle.std.proofs.Common.{◌≡◌, ℕ, ◌+◌, ◌^◌, ◌<◌, ◌≤◌, Bool, true, false, List, [], ◌∷◌, ◌++◌, length, Option, Some, None, arith, length-append, flat_map}
 use Rattle.std.specs.Prelude.{IsTrue}
-use Rattle.std.specs.List.{Contains}
 use Rattle.base_names.specs.Names.{is_name}
 use Rattle.ir_model.specs.declared.firmware.Inst.{Inst}
 use Rattle.ir_model.specs.declared.firmware.Inst.TheVariants as inst
@@ -22,7 +21,7 @@ use Rattle.base_laws.specs.Lists.{Each}
 use Rattle.ir_model.specs.Extents.{HasElements}
 use Rattle.ir_model.proofs.Elements.{type_elements}
 use Rattle.ir_model.proofs.NoExcess.{first_none, counted_none, number_fits}
-use Rattle.base_laws.proofs.Lists.{each_both, each_left, each_right, each_contained}
+use Rattle.base_laws.proofs.Lists.{each_both, each_left, each_right}
 
 abbrev Quiet : Line → Type 0
 Quiet l = Each PassesNothing l
@@ -404,6 +403,3 @@ module _ (w : PlainFirmware) where
     -- every function
     pub limited : Each Limited (funcs_of w)
     limited = small_in_files 0 0 w.files (of_files Quiet h.tokens)
-
-    pub few_bindings : (f : PlainFunc) → Contains (funcs_of w) f → HasFewBindings f
-    few_bindings f c = (each_contained Limited (funcs_of w) f c limited).bindings

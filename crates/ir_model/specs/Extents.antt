@@ -1,11 +1,11 @@
 -- Beyond the program's claim: only laws, proofs and functions inside the tool cite this file.
 -- Sizes and alignments where a size may pass the limit, and where a struct may not be declared.
-use Rattle.std.specs.Prelude.{Bool, ◌&&◌, true, false, IsTrue, ℕ, ◌+◌, ◌*◌, ◌<◌, ◌≤◌, List, [], ◌∷◌, ◌++◌, if◌then◌else◌, max, Option, Some, None, option_and_then, nat_le, bytes_eq}
+use Rattle.std.specs.Prelude.{Bool, ◌&&◌, true, false, ℕ, ◌+◌, ◌*◌, ◌<◌, List, [], ◌∷◌, ◌++◌, if◌then◌else◌, max, Option, Some, None, option_and_then, nat_le, bytes_eq}
 use Rattle.ir_model.specs.declared.extent.Extent.{Extent}
 use Rattle.ir_model.specs.declared.extent.TheConstants.{SIZE_LIMIT}
 use Rattle.ir_model.specs.Types.{PlainType, U8, U16, U32, Pointer, Array, Named, Callee}
 use Rattle.ir_model.specs.Plain.{PlainBinding, PlainStruct}
-use Rattle.ir_model.specs.Layout.{known, shape, rounded_up}
+use Rattle.ir_model.specs.Layout.{rounded_up}
 
 -- a struct that counts as declared, with its extent where it has one
 pub record Sized : Type 0 where
@@ -108,7 +108,3 @@ EachHasElements (f ∷ fs) = HasElements f.ty × EachHasElements fs
 abbrev pub AllHaveElements : List PlainStruct → Type 0
 AllHaveElements [] = Unit {0}
 AllHaveElements (s ∷ ss) = EachHasElements s.fields × AllHaveElements ss
-
--- a type of declared structs whose size is within the limit
-abbrev pub IsSized : List PlainStruct → PlainType → Type 0
-IsSized ss t = IsTrue (is_counted (counted ss) t) × ((shape (known ss) t).size ≤ SIZE_LIMIT)

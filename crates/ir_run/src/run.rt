@@ -29,7 +29,7 @@ use std::marker::Model;
 enum Phase {
     /// It goes on.
     Running(Parts),
-    /// It has ended so.
+    /// It has ended.
     Ended(SourceEnd),
 }
 
@@ -108,7 +108,7 @@ impl<'a> SourceRun<'a> {
     ghost use Rattle.ir_run.specs.Reads.{spot_of, frames_of, registers_of};
     ghost use Rattle.ir_run.specs.Runs.{IsChecked, IsStep, AnswersDeclared};
 
-    /// The run of a firmware with numbers for its names, that has the compartment of each of its functions, and the words that
+    /// The run of a firmware with numbers for its names, with the compartment of each of its functions, and the words that
     /// each peripheral gives: `main` is entered.
     ///
     /// # Errors
@@ -183,7 +183,7 @@ impl<'a> SourceRun<'a> {
         self.program
     }
 
-    /// Where each frame stands, the running one first; of a run that has ended, none.
+    /// Where each frame stands, the running one first; none where the run has ended.
     ///
     /// # Errors
     ///
@@ -197,7 +197,7 @@ impl<'a> SourceRun<'a> {
         }
     }
 
-    /// What the registers of the running frame hold, by their numbers; of a run that has ended, none.
+    /// What the registers of the running frame hold, by their numbers; none where the run has ended.
     pub fn registers(&self) -> &[Value]
         ensures { map value_of result.now ≡ registers_of (frames_of self.now.state) }
     {

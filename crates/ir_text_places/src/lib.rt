@@ -1,10 +1,10 @@
-//! Where in the text of a firmware the item stands whose check fails.
+//! Where in the text of a firmware the item whose check fails stands.
 #![tactic(auto)]
 
 mod before;
 mod declarations;
 mod functions;
-pub mod item;
+mod item;
 pub mod laws;
 mod naming;
 mod place;

@@ -13,7 +13,7 @@ use ir_reader::lexer::lex;
 use ir_reader::position::position;
 use ir_reader::token::Token;
 
-// How many bytes begin with the token before which so many stand: 0 at the end.
+// How many bytes stand from a token on, by the tokens before it: 0 at the end.
 fn left_at(text: &[u8], before: u64) -> usize
     ensures exact { result ≡ left_at before (placed text.now) }
 {
@@ -31,7 +31,7 @@ fn left_at(text: &[u8], before: u64) -> usize
     left
 }
 
-/// The place of the token of a firmware's text before which so many stand, or of the text's end where there are no more tokens.
+/// The place of the token of a firmware's text behind so many others, or of the text's end where there are no more tokens.
 pub fn token_place(text: &[u8], before: u64) -> Pos
     requires { length text.now ≤ text_limit }
     ensures { (w : PlainFirmware) → IsText w text.now → Stands w text.now before result }

@@ -21,7 +21,7 @@ pub fn add(a: u64, b: u64) -> Result<u64, AllocError>
     }
 }
 
-/// How many tokens a row of parts has with its closing mark, where so many are the parts, each with what stands behind it.
+/// How many tokens a row of parts has with its closing mark, by those of the parts, each with what stands behind it.
 pub fn closed(parts: u64) -> u64
     ensures { result ≡ sizes.closed parts }
 {

@@ -29,7 +29,7 @@ pub fn is_in_system(address: u32) -> bool
     address >= 0xE000_0000 && address < 0xE010_0000
 }
 
-/// Whether it is that of one of the system's registers.
+/// Whether an address is one of the system's registers.
 fn is_system_register(address: u32) -> bool
     ensures { result ≡ system.is_system_register address }
 {

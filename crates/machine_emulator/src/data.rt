@@ -61,7 +61,7 @@ pub fn shift_by(op: u8, x: u32, amount: u32, flags: Flags) -> Outcome
     shifted(flags, value, carry)
 }
 
-/// By how many places a shift by a number shifts: LSRS and ASRS by 0 shift by 32 (DecodeImmShift).
+/// How many places a shift by a number shifts: LSRS and ASRS by 0 shift by 32 (DecodeImmShift).
 pub fn immediate_amount(op: u8, imm5: u8) -> u32
     ensures { result ≡ operations.immediate_amount op imm5 }
 {

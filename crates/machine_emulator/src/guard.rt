@@ -140,7 +140,7 @@ impl Guard {
         &self.protection.mpu
     }
 
-    /// A write of one of the unit's registers; of another address nothing happens. All that was known is forgotten where the
+    /// Writes one of the unit's registers; nothing happens at another address. All that was known is forgotten where the
     /// unit is on afterwards. While it is off nothing is looked up.
     #[tactic(auto, using(crate::proofs::Kept::kept_rules))]
     pub fn write(&mut self, register: u32, value: u32)

@@ -18,7 +18,7 @@ mod flash_code;
 mod guard;
 mod memory_instructions;
 mod parts;
-pub mod reads;
+mod reads;
 mod register_instructions;
 mod several;
 mod special_registers;

@@ -126,6 +126,7 @@ pub fn is_name_length(length: u32) -> bool
     1 <= length && length as usize <= NAME_LIMIT
 }
 
+/// Whether some bytes are those of a text.
 pub fn is_text(bytes: &[u8], text: &[u8]) -> bool
     ensures { result ≡ bytes_eq bytes.now text.now }
 {

@@ -3,7 +3,7 @@
 
 pub mod answers;
 pub mod any_step;
-pub mod fault_registers;
+mod fault_registers;
 pub mod laws;
 mod protection;
 mod registers;

@@ -1,7 +1,7 @@
 //! Code with labels, and its bytes.
 #![tactic(auto)]
 
-pub mod assembler;
+mod assembler;
 mod encoding;
 pub mod item;
 pub mod laws;

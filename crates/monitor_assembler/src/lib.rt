@@ -1,8 +1,8 @@
 //! The assembler of privileged steps.
 #![tactic(auto)]
 
-pub mod assembling;
-pub mod lengths;
+mod assembling;
+mod lengths;
 mod pieces;
 
 pub use assembling::assemble;

@@ -3,7 +3,6 @@ use Rattle.std.proofs.Common.{◌≡◌, ◌≢◌, ℕ, ◌+◌, ◌-◌, ◌*�
 use Rattle.std.proofs.lemmas.Bool.{cases_lt}
 use Rattle.std.proofs.Math.Nat.{div-mul-le_self, mod_self}
 use Rattle.base_words.specs.Bytes.{read, write}
-use Rattle.machine_protection.specs.declared.TheConstants.{MPU_RBAR}
 use Rattle.machine_protection.specs.Configured.{written}
 use Rattle.machine_devices.specs.declared.image.Image.{Image}
 use Rattle.machine_model.specs.declared.state.ProtectionState.{ProtectionState}

@@ -82,7 +82,7 @@ impl Groups {
         self.total
     }
 
-    /// How many items a group has; a group that is not there has none.
+    /// How many items a group has; 0 for an absent one.
     pub fn count(&self, group: usize) -> u32
         ensures { result ≡ get_or self.now group 0 }
     {
@@ -102,7 +102,7 @@ impl Groups {
         }
     }
 
-    /// The number of an item by its place in its group; none where it is not there.
+    /// The number of an item by its place in its group; `None` if it is absent.
     pub fn place(&self, group: usize, item: u32) -> Option<u32>
         ensures { result ≡ place_of self.now group item }
     {

@@ -26,13 +26,13 @@ pub enum Key {
     RamSize,
     /// How many bytes of RAM are for the stack.
     RamStack,
-    /// Which block stands at RAM's base: `size`, the largest, or `stack`; where it is not there, `size`.
+    /// Which block stands at RAM's base: `size`, the largest, or `stack`; `size` by default.
     RamLowest,
     /// The table `mpu`, which need not be there.
     Mpu,
-    /// The number of regions of the protection unit; where it is not there, 8.
+    /// The number of regions of the protection unit; 8 by default.
     MpuRegions,
-    /// Whether loads are confined as stores are: `open` or `closed`; where it is not there, `open`.
+    /// Whether loads are confined as stores are: `open` or `closed`; `open` by default.
     MpuReads,
     /// The table `deny`, which need not be there: ranges of devices that no compartment may reach.
     Deny,

@@ -17,7 +17,7 @@ use plan_model::groups::Groups;
 use plan_model::needs::{Needs, SiteNeed};
 use std::alloc::{AllocError, Global};
 
-/// The compartment of a function; of one that is not there, 0.
+/// The compartment of a function; 0 for an absent one.
 pub fn compartment_of(groups: &Groups, func: u32) -> u32
     ensures { result ≡ groups_of.compartment_of groups.now func }
 {

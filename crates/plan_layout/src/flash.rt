@@ -90,7 +90,7 @@ fn code_spots(
     Ok(spots)
 }
 
-/// The refusal of code that needs so much, by the sizes of its blocks.
+/// The refusal of code of `needed` bytes, by the sizes of its blocks.
 fn refuse(sizes: &Sizes, code: &[u64], needed: u64, board: &Board) -> PlaceRefusal
     requires code { code.now ≡ flash.code_blocks sizes.now }
     requires needed { needed ≡ flash.flash_needed sizes.now }

@@ -36,7 +36,7 @@ pub(crate) struct RamPlan {
     unwritten: Option<Spot>,
 }
 
-/// Where a block lies that is there.
+/// Where a purpose's block lies.
 fn spot_of(memory: &Filled, purpose: Purpose) -> Spot
     ensures { result ≡ placed_for (ram_seen memory.now) (use_seen purpose) }
 {
@@ -187,8 +187,8 @@ fn place_ram(
     ram_plan(alloc, program, fin, board, &memory)
 }
 
-/// Where all blocks of a firmware lie on a board: blocks of flash in falling order of size, and so those of RAM, but that a
-/// region may stand in the end of another region's block, and that the stack stands first where the board asks for it.
+/// Where all blocks of a firmware lie on a board: blocks of flash and of RAM in falling order of size, except that a
+/// region may stand in the end of another region's block, and the stack stands first where the board asks for it.
 ///
 /// # Errors
 ///

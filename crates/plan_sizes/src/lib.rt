@@ -2,7 +2,7 @@
 #![tactic(auto)]
 
 mod functions;
-pub mod sizing;
+mod sizing;
 mod tables;
 
 pub use sizing::sizes;

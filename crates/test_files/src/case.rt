@@ -128,7 +128,7 @@ impl Case {
     }
 }
 
-/// A name with what it holds; none where it is not there. It may come to hold as much, and at least `ROOM` bytes.
+/// A name with what it holds, `None` where it is absent. It may come to hold as much, and at least `ROOM` bytes.
 fn entry(alloc: Global, name: &str, held: Option<Vec<u8>>) -> Result<MemEntry> {
     let name = name.as_bytes().to_vec(alloc)?;
     match held {

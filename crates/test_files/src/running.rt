@@ -205,7 +205,7 @@ fn compare_file(
     Ok(())
 }
 
-/// Whether something is said of a file, all of which has to be so.
+/// Whether any facts name a file; each of them has to hold.
 fn is_told(name: &str, bytes: Option<&[u8]>, held: &[Held]) -> Result<bool> {
     let mut told = false;
     for fact in held {
