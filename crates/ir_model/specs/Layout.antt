@@ -28,6 +28,10 @@ pub record Known : Type 0 where
 abbrev pub empty : Shape
 empty = record { size = 0; align = 1; cells = [] }
 
+-- the names of structs that are laid out
+abbrev pub names_of_known : List Known → List (List ℕ)
+names_of_known ks = map (λ (k : Known). k.name) ks
+
 -- by the first struct of a name
 abbrev pub shape_named : List Known → List ℕ → Shape
 shape_named [] n = empty

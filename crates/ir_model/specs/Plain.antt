@@ -82,6 +82,10 @@ names_of ss = map (λ (s : PlainBinding). s.name) ss
 abbrev pub types_of : List PlainBinding → List PlainType
 types_of ss = map (λ (s : PlainBinding). s.ty) ss
 
+-- the names of functions
+abbrev pub func_names : List PlainFunc → List (List ℕ)
+func_names fs = map (λ (f : PlainFunc). f.name) fs
+
 -- the functions of all files in order, by which they have their numbers
 abbrev pub funcs_of : PlainFirmware → List PlainFunc
 funcs_of w = flat_map (λ (f : PlainFile). f.funcs) w.files
