@@ -1,5 +1,5 @@
 -- Sizes, alignments, and where the cells of a type lie. Sizes and offsets are in bytes.
-use Rattle.std.specs.Prelude.{ℕ, zero, suc, ◌+◌, ◌-◌, ◌*◌, ◌/◌, List, [], ◌∷◌, ◌++◌, if◌then◌else◌, max, Option, Some, None, ◌&&◌, nat_eq, bytes_eq}
+use Rattle.std.specs.Prelude.{ℕ, zero, suc, ◌+◌, ◌-◌, ◌*◌, ◌/◌, List, [], ◌∷◌, ◌++◌, map, if◌then◌else◌, max, Option, Some, None, ◌&&◌, nat_eq, bytes_eq}
 use Rattle.ir_model.specs.Types.{PlainType, U8, U16, U32, Pointer, Array, Named, Callee, same}
 use Rattle.ir_model.specs.Plain.{PlainBinding, PlainStruct}
 
