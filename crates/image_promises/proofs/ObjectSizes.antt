@@ -6,7 +6,7 @@ use Rattle.ir_model.specs.declared.check.CheckPlace.{CheckPlace}
 use Rattle.ir_model.specs.declared.check.CheckPlace.TheVariants as place
 use Rattle.ir_model.specs.Types.{PlainType, U8, U16, U32, Pointer, Array, Named, Callee}
 use Rattle.ir_model.specs.Plain.{PlainBinding, PlainStruct, PlainGlobal, PlainFunc, PlainFirmware, funcs_of, names_of}
-use Rattle.ir_model.specs.Layout.{Shape, Known, empty, shape_named, shape, with_field, laid_out, field_places, with_struct, known_behind, known}
+use Rattle.ir_model.specs.Layout.{Shape, Known, empty, shape_named, shape, with_field, laid_out, field_places, with_struct, known_behind, known, names_of_known}
 use Rattle.ir_model.specs.Resolved.{no_global, no_func, func_at, global_at, local_at}
 use Rattle.base_names.specs.Numbers.{has}
 use Rattle.ir_model.specs.Resolve.{scope_of, resolved_func, resolved_global, resolve}
@@ -23,9 +23,6 @@ use Rattle.base_laws.proofs.Lists.{each_both}
 
 -- ---- types
 
-abbrev names_in : List Known → List (List ℕ)
-names_in ks = map (λ (k : Known). k.name) ks
-
 abbrev AreLarge : List Known → Type 0
 AreLarge ks = Each (λ (k : Known). 0 < k.shape.size) ks
 
@@ -33,50 +30,50 @@ by_name : (b c : Bool) (s t : Shape) → (if b then true else c) ≡ true → 0 
 by_name true c s t h g r = g
 by_name false c s t h g r = r h
 
-named_large : (ks : List Known) (n : List ℕ) → AreLarge ks → has (names_in ks) n ≡ true → 0 < (shape_named ks n).size
+named_large : (ks : List Known) (n : List ℕ) → AreLarge ks → has (names_of_known ks) n ≡ true → 0 < (shape_named ks n).size
 named_large [] n a h = absurd (let e : false ≡ true = h in cc)
-named_large (k ∷ ks) n a h = by_name (bytes_eq k.name n) (has (names_in ks) n) k.shape (shape_named ks n) h a.0 (named_large ks n a.1)
+named_large (k ∷ ks) n a h = by_name (bytes_eq k.name n) (has (names_of_known ks) n) k.shape (shape_named ks n) h a.0 (named_large ks n a.1)
 
 -- a type whose structs are known and whose arrays have elements has a byte at least
-type_large : (ds : List (List ℕ)) (p : CheckPlace) (ks : List Known) (t : PlainType) → AreLarge ks → Pass (type_checks ds (names_in ks) p t) → HasElements t → 0 < (shape ks t).size
+type_large : (ds : List (List ℕ)) (p : CheckPlace) (ks : List Known) (t : PlainType) → AreLarge ks → Pass (type_checks ds (names_of_known ks) p t) → HasElements t → 0 < (shape ks t).size
 type_large ds p ks U8 a h e = omega arith
 type_large ds p ks U16 a h e = omega arith
 type_large ds p ks U32 a h e = omega arith
 type_large ds p ks (Pointer t) a h e = omega arith
 type_large ds p ks (Array n t) a h e = let s = type_large ds p ks t a h e.1 in let m = many_at_least n (shape ks t).size e.0 in omega (arith, s, m)
-type_large ds p ks (Named n) a h e = named_large ks n a (holds (has (names_in ks) n) (Unknown n) p [] h)
+type_large ds p ks (Named n) a h e = named_large ks n a (holds (has (names_of_known ks) n) (Unknown n) p [] h)
 type_large ds p ks (Callee b r) a h e = omega arith
 
 -- ---- structs
 
 -- fields behind what has a byte already
 behind_large : (ds : List (List ℕ)) (p : CheckPlace) (seen : List (List ℕ)) (ks : List Known) (s : Shape) (fs : List PlainBinding) → AreLarge ks → 0 < s.size → 0 < s.align
-    → Pass (field_checks ds (names_in ks) p seen fs) → EachHasElements fs → 0 < (laid_out ks s fs).size
+    → Pass (field_checks ds (names_of_known ks) p seen fs) → EachHasElements fs → 0 < (laid_out ks s fs).size
 behind_large ds p seen ks s [] a some align h e = let r = rounded_at_least s.size s.align align in omega (arith, r, some)
 behind_large ds p seen ks s (f ∷ fs) a some align h e =
-    let front : Checks = is_new seen f.name p ∷ type_checks ds (names_in ks) p f.ty in
-    let rest : Checks = field_checks ds (names_in ks) p (seen ++ f.name ∷ []) fs in
-    let own = type_large ds p ks f.ty a (right (is_new seen f.name p ∷ []) (type_checks ds (names_in ks) p f.ty) (left front rest h)) e.0 in
+    let front : Checks = is_new seen f.name p ∷ type_checks ds (names_of_known ks) p f.ty in
+    let rest : Checks = field_checks ds (names_of_known ks) p (seen ++ f.name ∷ []) fs in
+    let own = type_large ds p ks f.ty a (right (is_new seen f.name p ∷ []) (type_checks ds (names_of_known ks) p f.ty) (left front rest h)) e.0 in
     behind_large ds p (seen ++ f.name ∷ []) ks (with_field ks s f.ty) fs a (omega (arith, own)) (omega (arith, align)) (right front rest h) e.1
 
 fields_large : (ds : List (List ℕ)) (p : CheckPlace) (ks : List Known) (fs : List PlainBinding) → AreLarge ks → 0 < length fs
-    → Pass (field_checks ds (names_in ks) p [] fs) → EachHasElements fs → 0 < (laid_out ks empty fs).size
+    → Pass (field_checks ds (names_of_known ks) p [] fs) → EachHasElements fs → 0 < (laid_out ks empty fs).size
 fields_large ds p ks [] a some h e = absurd (omega (arith, some))
 fields_large ds p ks (f ∷ fs) a some h e =
-    let front : Checks = is_new [] f.name p ∷ type_checks ds (names_in ks) p f.ty in
-    let rest : Checks = field_checks ds (names_in ks) p (f.name ∷ []) fs in
-    let own = type_large ds p ks f.ty a (right (is_new [] f.name p ∷ []) (type_checks ds (names_in ks) p f.ty) (left front rest h)) e.0 in
+    let front : Checks = is_new [] f.name p ∷ type_checks ds (names_of_known ks) p f.ty in
+    let rest : Checks = field_checks ds (names_of_known ks) p (f.name ∷ []) fs in
+    let own = type_large ds p ks f.ty a (right (is_new [] f.name p ∷ []) (type_checks ds (names_of_known ks) p f.ty) (left front rest h)) e.0 in
     behind_large ds p (f.name ∷ []) ks (with_field ks empty f.ty) fs a (omega (arith, own)) (omega arith) (right front rest h) e.1
 
-names_behind : (ks : List Known) (ss : List PlainStruct) → names_in (known_behind ks ss) ≡ names_in ks ++ map (λ (s : PlainStruct). s.name) ss
-names_behind ks [] = sym (append-nil (names_in ks))
+names_behind : (ks : List Known) (ss : List PlainStruct) → names_of_known (known_behind ks ss) ≡ names_of_known ks ++ map (λ (s : PlainStruct). s.name) ss
+names_behind ks [] = sym (append-nil (names_of_known ks))
 names_behind ks (s ∷ ss) =
     let k : Known = record { name = s.name; shape = laid_out ks empty s.fields; fields = field_places ks empty s.fields } in
     names_behind (with_struct ks s) ss
     ∙ (ap (λ (x : List (List ℕ)). x ++ map (λ (d : PlainStruct). d.name) ss) (map-append (λ (j : Known). j.name) ks (k ∷ []))
-    ∙ append_assoc (names_in ks) (s.name ∷ []) (map (λ (d : PlainStruct). d.name) ss))
+    ∙ append_assoc (names_of_known ks) (s.name ∷ []) (map (λ (d : PlainStruct). d.name) ss))
 
-structs_large : (ds : List (List ℕ)) (es : List PlainStruct) (ks : List Known) (ss : List PlainStruct) → names_in ks ≡ map (λ (d : PlainStruct). d.name) es → AreLarge ks
+structs_large : (ds : List (List ℕ)) (es : List PlainStruct) (ks : List Known) (ss : List PlainStruct) → names_of_known ks ≡ map (λ (d : PlainStruct). d.name) es → AreLarge ks
     → Pass (structs_checks ds es ss) → AllHaveElements ss → Each (λ (s : PlainStruct). 0 < length s.fields) ss → AreLarge (known_behind ks ss)
 structs_large ds es ks [] n a h e some = a
 structs_large ds es ks (s ∷ ss) n a h e some =
@@ -89,7 +86,7 @@ structs_large ds es ks (s ∷ ss) n a h e some =
     let fields : Pass (field_checks ds before p [] s.fields) = right (is_new before s.name p ∷ []) (field_checks ds before p [] s.fields) (left front big own) in
     let large : 0 < (laid_out ks empty s.fields).size =
     fields_large ds p ks s.fields a some.0 (subst (λ (z : List (List ℕ)). Pass (field_checks ds z p [] s.fields)) (sym n) fields) e.0 in
-    let named : names_in (with_struct ks s) ≡ map (λ (d : PlainStruct). d.name) (es ++ s ∷ []) =
+    let named : names_of_known (with_struct ks s) ≡ map (λ (d : PlainStruct). d.name) (es ++ s ∷ []) =
     map-append (λ (j : Known). j.name) ks (k ∷ [])
     ∙ (ap (λ (x : List (List ℕ)). x ++ s.name ∷ []) n ∙ sym (map-append (λ (d : PlainStruct). d.name) es (s ∷ []))) in
     structs_large ds (es ++ s ∷ []) (with_struct ks s) ss named (each_both (λ (j : Known). 0 < j.shape.size) ks (k ∷ []) a (large, tt))
@@ -100,7 +97,7 @@ module _ (w : PlainFirmware) (typed : IsTyped w) (within : IsWithinLimits w) whe
   unfolding known
   known_large = structs_large (structs_named w) [] [] w.structs refl tt (parts_pass w typed).structs (firmware_elements w within) within.structs
 
-  known_names : names_in (known w.structs) ≡ structs_named w
+  known_names : names_of_known (known w.structs) ≡ structs_named w
   unfolding known
   known_names = names_behind [] w.structs
 

@@ -7,14 +7,14 @@ use Rattle.std.proofs.lemmas.List.{length-map}
 use Rattle.std.proofs.lemmas.Slice.Eq.{bytes_eq-Decides}
 use Rattle.base_names.specs.Names.{is_name}
 use Rattle.machine_devices.specs.declared.image.Window.{Window}
-use Rattle.base_ranges.specs.Ranges.{are_apart, IsWindowRange}
+use Rattle.base_ranges.specs.Ranges.{are_apart}
 use Rattle.base_ranges.proofs.Decisions.{decides_apart}
 use Rattle.machine_devices.specs.Rules.{IsWindow, IsApart, AreWindows}
 use Rattle.ir_model.specs.declared.check.CheckKind.TheVariants.{Twice, BadWindow, WindowOverlap}
 use Rattle.ir_model.specs.declared.check.CheckPlace.TheVariants as place
 use Rattle.ir_model.specs.declared.firmware.Peripheral.{Peripheral}
 use Rattle.ir_model.specs.Plain.{PlainFirmware}
-use Rattle.ir_model.specs.Resolved.{NumberedWindow, no_window}
+use Rattle.ir_model.specs.Resolved.{no_window}
 use Rattle.ir_model.specs.Resolve as numbers
 use Rattle.base_names.specs.Numbers.{has}
 use Rattle.ir_model.specs.Resolve.{resolve}
@@ -26,12 +26,10 @@ use Rattle.ir_model.proofs.Passing.{Pass, left, right, holds, behind}
 use Rattle.ir_model.proofs.Typed.{parts_pass}
 use Rattle.ir_model.proofs.Limits.{named_periphs}
 use Rattle.ir_laws.specs.Limits.{WindowsLieApart}
+use Rattle.ir_laws.proofs.Windows.{HasRange}
 use Rattle.ir_program.specs.Windows.{window_of, windows_of}
 
 -- ---- one window
-
-abbrev HasRange : NumberedWindow → Type 0
-HasRange x = IsWindowRange x.base x.size
 
 window_rules : (q : Peripheral) → IsTrue (is_name q.name) → HasRange (numbers.window_of q) → IsWindow (window_of q)
 window_rules q n i = record { named = n; range = i }

@@ -5,13 +5,13 @@ use Rattle.std.proofs.lemmas.List.Elements.{All-nil, All-cons}
 use Rattle.std.specs.List.{All}
 use Rattle.ir_model.specs.declared.firmware.Block.{Block}
 use Rattle.ir_model.specs.declared.firmware.Func.{Func}
-use Rattle.ir_model.specs.Plain.{PlainFirmware, func_of, funcs_of, binding_of}
+use Rattle.ir_model.specs.Plain.{PlainFirmware, func_of, funcs_of, binding_of, lent_funcs}
 use Rattle.ir_model.specs.Canonical.{IsWithinLimits}
 use Rattle.base_laws.specs.Lists.{Each}
 use Rattle.ir_model.specs.TextLimits.{instruction_limit}
 use Rattle.ir_model.specs.FewItems.{HasFewItems}
 use Rattle.ir_model.proofs.Limits.{Limited, limited, insts_in}
-use Rattle.ir_check_scopes.specs.Scopes.{AreSmall, lent_funcs}
+use Rattle.ir_check_scopes.specs.Scopes.{AreSmall}
 
 few_insts : (bs : List Block) → insts_in bs ≤ instruction_limit → All (λ (b : Block). length b.insts ≤ instruction_limit) bs
 few_insts [] h = All-nil (λ (b : Block). length b.insts ≤ instruction_limit)

@@ -2,8 +2,8 @@
 
 ghost use Rattle.std.specs.Prelude.{◌≡◌, IfOk};
 ghost use Rattle.ir_model.specs.Plain.{firmware_of};
+ghost use Rattle.ir_model.specs.Typing.{declared_checks};
 ghost use Rattle.ir_check_scopes.specs.Found.{Finds};
-ghost use Rattle.ir_check_declarations.specs.DeclarationParts.{declared_part};
 
 use crate::periphs::periphs;
 use crate::structs::structs;
@@ -16,7 +16,7 @@ use std::alloc::Global;
 /// The checks of structs and peripherals, and the tables of the firmware.
 #[tactic(auto, using(ir_check_scopes::proofs::Order::checks_in_order))]
 pub fn declared<'a>(alloc: Global, firmware: &'a Firmware) -> Result<Scope<'a>, CheckFault>
-    ensures finds { Finds (declared_part (firmware_of firmware.now)) result }
+    ensures finds { Finds (declared_checks (firmware_of firmware.now)) result }
     ensures firmware { IfOk result (λ s. s.firmware.now ≡ firmware.now) }
 {
     let names = struct_names(alloc, firmware.structs.as_slice())?;

@@ -1,11 +1,12 @@
 -- What names mean here is what they mean in the rules of types: functions over all files, and fields of structs.
-use Rattle.std.proofs.Common.{◌≡◌, ℕ, Bool, true, false, List, [], ◌∷◌, ◌++◌, map, flat_map, Option, Some, None, if◌then◌else◌, refl, bytes_eq, ap, ◌∙◌}
+use Rattle.std.proofs.Common.{◌≡◌, ℕ, Bool, true, false, List, [], ◌∷◌, ◌++◌, flat_map, Option, Some, None, if◌then◌else◌, refl, bytes_eq, ap, ◌∙◌}
 use Rattle.ir_model.specs.Types.{PlainType}
 use Rattle.ir_model.specs.Plain.{PlainBinding, PlainStruct, PlainFunc, PlainFile, PlainFirmware, funcs_of}
-use Rattle.ir_model.specs.Layout.{Known, Shape, FieldPlace, known, known_behind, with_struct, with_field, fields_named, field_places, laid_out, empty}
+use Rattle.ir_model.specs.Layout.{Known, Shape, FieldPlace, known, known_behind, with_struct, with_field, fields_named, field_places, laid_out, empty, names_of_known}
 use Rattle.base_names.specs.Numbers.{has}
 use Rattle.ir_model.specs.Rules.{binding_type, func_type, field_type}
-use Rattle.ir_check_details.specs.Found.{func_named, func_in, or_else, struct_named, signature_of}
+use Rattle.ir_model.specs.Resolve.{signature_of}
+use Rattle.ir_check_details.specs.Found.{func_named, func_in, or_else, struct_named}
 
 -- ---- functions
 
@@ -34,9 +35,6 @@ same_func w n = func_of_files w.files n
 abbrev field_found : Option PlainStruct → List ℕ → Option PlainType
 field_found None f = None
 field_found (Some s) f = binding_type s.fields f
-
-abbrev names_of_known : List Known → List (List ℕ)
-names_of_known ks = map (λ (k : Known). k.name) ks
 
 places : (ks : List Known) (u : Shape) (ss : List PlainBinding) (f : List ℕ) → field_type (field_places ks u ss) f ≡ binding_type ss f
 places ks u [] f = refl

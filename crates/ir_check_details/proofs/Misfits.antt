@@ -15,10 +15,10 @@ use Rattle.ir_model.specs.Types.{PlainType, type_of}
 use Rattle.ir_model.specs.Plain.{PlainFunc, PlainGlobal, PlainFirmware, funcs_of}
 use Rattle.ir_model.specs.Rules.{is_type, func_type}
 use Rattle.base_names.specs.Numbers.{has}
-use Rattle.ir_model.specs.Typing.{check, first_failing}
+use Rattle.ir_model.specs.Typing.{check, first_failing, declared_checks}
 use Rattle.ir_cells.specs.Cells.{lent_types}
 use Rattle.ir_check_scopes.specs.Parts.{address_fits}
-use Rattle.ir_check_details.specs.FirstValues.{fits, values_lines, value_lines, init_lines, too_many_lines, first_checks, cell_types, global_lines, unless_failing}
+use Rattle.ir_check_details.specs.FirstValues.{fits, values_lines, value_lines, init_lines, too_many_lines, cell_types, global_lines, unless_failing}
 
 -- ---- checks that pass
 
@@ -110,5 +110,5 @@ init_taken w g ts = by_size (cases_lt (length ts) (length g.init))
 
 -- ---- where no struct and no peripheral has a fault
 
-pub of_global : (w : PlainFirmware) (g : PlainGlobal) (o : Option PlainGlobal) → first_failing (first_checks w) ≡ None → o ≡ Some g → init_lines w g (cell_types w g.ty) ≡ global_lines w o
+pub of_global : (w : PlainFirmware) (g : PlainGlobal) (o : Option PlainGlobal) → first_failing (declared_checks w) ≡ None → o ≡ Some g → init_lines w g (cell_types w g.ty) ≡ global_lines w o
 of_global w g o e h = ap (λ f. unless_failing f (init_lines w g (cell_types w g.ty))) (sym e) ∙ ap (λ p. global_lines w p) (sym h)

@@ -7,9 +7,9 @@ use Rattle.ir_model.specs.declared.check.CheckPlace.TheVariants as place
 use Rattle.ir_model.specs.declared.firmware.Cell.{Cell}
 use Rattle.ir_model.specs.declared.firmware.Cell.TheVariants.{Word, Function, Address}
 use Rattle.ir_model.specs.Types.{PlainType}
-use Rattle.ir_model.specs.Plain.{PlainStruct, PlainGlobal, PlainFirmware}
+use Rattle.ir_model.specs.Plain.{PlainGlobal, PlainFirmware}
 use Rattle.ir_model.specs.Layout.{CellPlace, known, shape}
-use Rattle.ir_model.specs.Typing.{Checks, Failing, first_failing, cell_checks, structs_checks, periph_checks}
+use Rattle.ir_model.specs.Typing.{Failing, first_failing, cell_checks, declared_checks}
 use Rattle.ir_check_details.specs.Words.{expected, expected_type}
 
 abbrev pub global_named : List PlainGlobal → List ℕ → Option PlainGlobal
@@ -58,15 +58,11 @@ init_lines w g ts =
 abbrev pub cell_types : PlainFirmware → PlainType → List PlainType
 cell_types w t = map (λ (c : CellPlace). c.ty) (shape (known w.structs) t).cells
 
--- the checks of structs and peripherals, which come first
-abbrev pub first_checks : PlainFirmware → Checks
-first_checks w = structs_checks (map (λ (s : PlainStruct). s.name) w.structs) [] w.structs ++ periph_checks [] w.periphs
-
--- no line where one of them fails: types need not have cells then
+-- no line where a check of structs and peripherals fails: types need not have cells then
 abbrev pub unless_failing : Option Failing → (lines : List ℕ) → List ℕ
 unless_failing (Some e) ls = []
 unless_failing None ls = ls
 
 abbrev pub global_lines : PlainFirmware → Option PlainGlobal → List ℕ
 global_lines w None = []
-global_lines w (Some g) = unless_failing (first_failing (first_checks w)) (init_lines w g (cell_types w g.ty))
+global_lines w (Some g) = unless_failing (first_failing (declared_checks w)) (init_lines w g (cell_types w g.ty))

@@ -2,9 +2,7 @@
 use Rattle.std.specs.Prelude.{ℕ, List, [], ◌∷◌, Option, Some, None, bytes_eq, if◌then◌else◌}
 use Rattle.ir_model.specs.declared.firmware.Block.{Block}
 use Rattle.ir_model.specs.declared.firmware.Peripheral.{Peripheral}
-use Rattle.ir_model.specs.Types.{PlainType, Callee}
 use Rattle.ir_model.specs.Plain.{PlainStruct, PlainFunc, PlainFile}
-use Rattle.ir_model.specs.Resolve.{row_from}
 
 abbrev pub func_named : List PlainFunc → List ℕ → Option PlainFunc
 func_named [] n = None
@@ -31,7 +29,3 @@ periph_named (q ∷ qs) n = if bytes_eq q.name n then Some q else periph_named q
 abbrev pub struct_named : List PlainStruct → List ℕ → Option PlainStruct
 struct_named [] n = None
 struct_named (s ∷ ss) n = if bytes_eq s.name n then Some s else struct_named ss n
-
--- the type of a function
-abbrev pub signature_of : PlainFunc → PlainType
-signature_of f = Callee (row_from f.params) f.outcome

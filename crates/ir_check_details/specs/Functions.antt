@@ -4,9 +4,9 @@ use Rattle.ir_model.specs.declared.firmware.Inst.{Inst}
 use Rattle.ir_model.specs.declared.firmware.Block.{Block}
 use Rattle.ir_model.specs.Types.{PlainResult, nothing, gives, is_register_type}
 use Rattle.ir_model.specs.Plain.{PlainBinding, PlainFunc, PlainFirmware}
-use Rattle.ir_model.specs.Resolve.{main_name}
+use Rattle.ir_model.specs.Resolve.{main_name, signature_of}
 use Rattle.ir_check_details.specs.Words.{found_typed, expected}
-use Rattle.ir_check_details.specs.Found.{func_in, block_named, signature_of}
+use Rattle.ir_check_details.specs.Found.{func_in, block_named}
 use Rattle.ir_check_details.specs.Calls.{inst_lines, term_lines}
 
 -- ---- instructions and the ends of blocks

@@ -4,10 +4,10 @@ use Rattle.ir_model.specs.declared.firmware.Peripheral.{Peripheral}
 use Rattle.ir_model.specs.Types.{PlainType, U32, Pointer, Named, is_integer, is_register_type, element_of}
 use Rattle.ir_model.specs.Plain.{PlainBinding, PlainStruct, PlainFunc, PlainFirmware}
 use Rattle.base_names.specs.Numbers.{has}
-use Rattle.ir_model.specs.Resolve.{type_named}
+use Rattle.ir_model.specs.Resolve.{type_named, signature_of}
 use Rattle.ir_model.specs.Rules.{binding_type, global_type, is_number}
 use Rattle.ir_check_details.specs.Words.{found, found_typed, expected, expected_type}
-use Rattle.ir_check_details.specs.Found.{func_in, struct_named, signature_of}
+use Rattle.ir_check_details.specs.Found.{func_in, struct_named}
 
 -- a register of a function, with its type
 abbrev pub found_register : PlainFunc → (register : List ℕ) → List ℕ

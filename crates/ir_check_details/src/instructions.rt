@@ -5,7 +5,7 @@ ghost use Rattle.base_names.specs.Numbers.{has};
 ghost use Rattle.ir_model.specs.declared.firmware.Peripheral.{Peripheral as PlainPeripheral};
 ghost use Rattle.ir_model.specs.Types.{type_of, Pointer, element_of};
 ghost use Rattle.ir_model.specs.Plain.{binding_of, func_of, firmware_of};
-ghost use Rattle.ir_model.specs.Resolve.{row_from};
+ghost use Rattle.ir_model.specs.Resolve.{row_from, signature_of};
 ghost use Rattle.ir_model.specs.Rules.{binding_type, global_type};
 ghost use Rattle.ir_grammar.specs.Spelling.{spell_row, spell_more_row};
 ghost use Rattle.ir_printer.specs.Pieces.{as_bytes};
@@ -150,7 +150,7 @@ fn put_params(out: &mut Vec<u8>, params: &[Binding]) -> Result<(), AllocError>
 
 /// Puts the type of a function.
 pub(crate) fn put_signature(out: &mut Vec<u8>, func: &Func) -> Result<(), AllocError>
-    ensures { OnOk result (out.new.items ≡ out.old.items ++ words.type_text (found.signature_of (func_of func.now))) }
+    ensures { OnOk result (out.new.items ≡ out.old.items ++ words.type_text (signature_of (func_of func.now))) }
 {
     put_keyword(out, Keyword::Fn)?;
     put_mark(out, Mark::Open)?;
@@ -160,7 +160,7 @@ pub(crate) fn put_signature(out: &mut Vec<u8>, func: &Func) -> Result<(), AllocE
 
 /// Puts the line of a function's type that was expected.
 fn put_expected_signature(out: &mut Vec<u8>, func: &Func) -> Result<(), AllocError>
-    ensures { OnOk result (out.new.items ≡ out.old.items ++ words.expected_type (found.signature_of (func_of func.now))) }
+    ensures { OnOk result (out.new.items ≡ out.old.items ++ words.expected_type (signature_of (func_of func.now))) }
 {
     put(out, b"expected")?;
     put_signature(out, func)?;

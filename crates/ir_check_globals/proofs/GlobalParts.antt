@@ -12,14 +12,11 @@ use Rattle.ir_model.specs.Types.{PlainType, type_of}
 use Rattle.ir_model.specs.Plain.{PlainStruct, PlainGlobal, PlainFirmware}
 use Rattle.ir_model.specs.Layout.{CellPlace, known, shape}
 use Rattle.ir_model.specs.Typing.{check, global_checks, init_checks, cell_checks}
-use Rattle.ir_cells.specs.Cells.{lent_types}
+use Rattle.ir_cells.specs.Cells.{lent_types, types_of}
 use Rattle.ir_check_globals.specs.Parts.{named_check, cells_part, values_checks, values_part, global_part}
 use Rattle.ir_check_scopes.proofs.Regrouped.{regroup}
 
-abbrev types : List CellPlace → List PlainType
-types cs = map (λ (c : CellPlace). c.ty) cs
-
-values_same : (w : PlainFirmware) (p : CheckPlace) (cs : List Cell) (ts : List CellPlace) → init_checks w p cs ts ≡ values_checks w p cs (types ts)
+values_same : (w : PlainFirmware) (p : CheckPlace) (cs : List Cell) (ts : List CellPlace) → init_checks w p cs ts ≡ values_checks w p cs (types_of ts)
 values_same w p [] ts = refl
 values_same w p (c ∷ cs) [] = refl
 values_same w p (c ∷ cs) (t ∷ ts) = ap (λ xs. cell_checks w p c t.ty ++ xs) (values_same w p cs ts)
@@ -37,9 +34,9 @@ length_taken n ts = by_size (cases_lt (length ts) n)
     by_size (inl l) = ap (λ (xs : List PlainType). nat_le n (length xs)) (take_all n ts (omega arith))
     by_size (inr l) = let e = length-take-le n ts l in let q : nat_le n (length (take n ts)) ≡ true = grind (arith, nat_tests) in let r : nat_le n (length ts) ≡ true = grind (arith, nat_tests) in q ∙ sym r
 
-pub cells_parts : (w : PlainFirmware) (p : CheckPlace) (cs : List Cell) (t : PlainType) (ts : List PlainType) → ts ≡ take (length cs) (types (shape (known w.structs) t).cells) → cells_part w p cs t ≡ values_part w p cs ts
+pub cells_parts : (w : PlainFirmware) (p : CheckPlace) (cs : List Cell) (t : PlainType) (ts : List PlainType) → ts ≡ take (length cs) (types_of (shape (known w.structs) t).cells) → cells_part w p cs t ≡ values_part w p cs ts
 cells_parts w p cs t ts e =
-    let us : List PlainType = types (shape (known w.structs) t).cells in
+    let us : List PlainType = types_of (shape (known w.structs) t).cells in
     ap (λ n. check (nat_le (length cs) n) BadInit p ∷ init_checks w p cs (shape (known w.structs) t).cells) (sym (length-map (shape (known w.structs) t).cells (λ (c : CellPlace). c.ty)))
     ∙ (ap (λ xs. check (nat_le (length cs) (length us)) BadInit p ∷ xs) (values_same w p cs (shape (known w.structs) t).cells ∙ sym (values_taken w p cs us))
     ∙ (ap (λ b. check b BadInit p ∷ values_checks w p cs (take (length cs) us)) (sym (length_taken (length cs) us)) ∙ ap (λ us. values_part w p cs us) (sym e)))

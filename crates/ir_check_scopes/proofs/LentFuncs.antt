@@ -4,9 +4,9 @@ use Rattle.std.proofs.lemmas.List.{map-append, length-map}
 use Rattle.ir_model.specs.declared.firmware.Func.{Func}
 use Rattle.ir_model.specs.declared.firmware.FileDecl.{FileDecl}
 use Rattle.ir_model.specs.declared.firmware.Firmware.{Firmware}
-use Rattle.ir_model.specs.Plain.{PlainFile, PlainFunc, func_of, file_of, firmware_of, funcs_of}
+use Rattle.ir_model.specs.Plain.{PlainFile, PlainFunc, func_of, file_of, firmware_of, funcs_of, lent_funcs}
 use Rattle.ir_check_scopes.specs.declared.scope.Scope.{Scope}
-use Rattle.ir_check_scopes.specs.Scopes.{lent, lent_funcs, declared_funcs}
+use Rattle.ir_check_scopes.specs.Scopes.{lent, declared_funcs}
 
 plain_lent : (fs : List (Bor Func)) → lent_funcs fs ≡ map func_of (lent fs)
 plain_lent [] = refl

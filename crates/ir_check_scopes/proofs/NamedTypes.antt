@@ -2,10 +2,10 @@
 use Rattle.std.proofs.Common.{◌≡◌, ℕ, zero, suc, ◌+◌, ◌-◌, ◌<◌, ◌≤◌, Bool, true, false, List, [], ◌∷◌, ◌++◌, map, get_or, length, Option, Some, None, if◌then◌else◌, refl, sym, ap, ◌∙◌, arith, bytes_eq}
 use Rattle.ir_model.specs.declared.firmware.Binding.{Binding}
 use Rattle.ir_model.specs.declared.firmware.Global.{Global}
-use Rattle.ir_model.specs.Types.{PlainType, U32, Callee, type_of}
-use Rattle.ir_model.specs.Plain.{PlainBinding, PlainGlobal, PlainFunc, binding_of, global_of, names_of, types_of}
+use Rattle.ir_model.specs.Types.{PlainType, U32, type_of}
+use Rattle.ir_model.specs.Plain.{PlainBinding, PlainGlobal, PlainFunc, binding_of, global_of, names_of, types_of, func_names}
 use Rattle.base_names.specs.Numbers.{has, number_of}
-use Rattle.ir_model.specs.Resolve.{row_from}
+use Rattle.ir_model.specs.Resolve.{signature_of}
 use Rattle.ir_model.specs.Rules.{binding_type, global_type, func_type}
 
 absent_pick : (b : Bool) (t : PlainType) (ts : List PlainType) (k : ℕ) (h : Bool) → (if b then true else h) ≡ false → (h ≡ false → get_or ts k U32 ≡ U32) → get_or (t ∷ ts) (if b then zero else suc k) U32 ≡ U32
@@ -66,22 +66,16 @@ pub global_nowhere : (gs : List PlainGlobal) (n : List ℕ) → has (map (λ (g 
 global_nowhere [] n h = refl
 global_nowhere (g ∷ gs) n h = nowhere_pick (bytes_eq g.name n) (has (map (λ (g : PlainGlobal). g.name) gs) n) g.ty (global_type gs n) h (global_nowhere gs n)
 
-abbrev funcs_named : List PlainFunc → List (List ℕ)
-funcs_named fs = map (λ (f : PlainFunc). f.name) fs
-
-abbrev type_of_func : PlainFunc → PlainType
-type_of_func f = Callee (row_from f.params) f.outcome
-
-func_there : {A : Type 0} (p : A → PlainFunc) (fs : List A) (n : List ℕ) (d : A) → has (funcs_named (map p fs)) n ≡ true → func_type (map p fs) n ≡ Some (type_of_func (p (get_or fs (number_of (funcs_named (map p fs)) n) d)))
+func_there : {A : Type 0} (p : A → PlainFunc) (fs : List A) (n : List ℕ) (d : A) → has (func_names (map p fs)) n ≡ true → func_type (map p fs) n ≡ Some (signature_of (p (get_or fs (number_of (func_names (map p fs)) n) d)))
 func_there p [] n d h = cc
-func_there p (f ∷ fs) n d h = there_pick (bytes_eq (p f).name n) (has (funcs_named (map p fs)) n) (type_of_func (p f)) (func_type (map p fs) n) (λ x. type_of_func (p x)) f fs (number_of (funcs_named (map p fs)) n) d h refl (func_there p fs n d)
+func_there p (f ∷ fs) n d h = there_pick (bytes_eq (p f).name n) (has (func_names (map p fs)) n) (signature_of (p f)) (func_type (map p fs) n) (λ x. signature_of (p x)) f fs (number_of (func_names (map p fs)) n) d h refl (func_there p fs n d)
 
-pub func_at : {A : Type 0} (p : A → PlainFunc) (fs : List A) (all : List PlainFunc) (n : List ℕ) (k : ℕ) (d : A) → map p fs ≡ all → has (funcs_named all) n ≡ true → k ≡ number_of (funcs_named all) n → func_type all n ≡ Some (type_of_func (p (get_or fs k d)))
+pub func_at : {A : Type 0} (p : A → PlainFunc) (fs : List A) (all : List PlainFunc) (n : List ℕ) (k : ℕ) (d : A) → map p fs ≡ all → has (func_names all) n ≡ true → k ≡ number_of (func_names all) n → func_type all n ≡ Some (signature_of (p (get_or fs k d)))
 func_at p fs all n k d q h e =
     ap (λ gs. func_type gs n) (sym q)
-    ∙ (func_there p fs n d (ap (λ gs. has (funcs_named gs) n) q ∙ h)
-    ∙ ap (λ j. Some (type_of_func (p (get_or fs j d)))) (ap (λ gs. number_of (funcs_named gs) n) q ∙ sym e))
+    ∙ (func_there p fs n d (ap (λ gs. has (func_names gs) n) q ∙ h)
+    ∙ ap (λ j. Some (signature_of (p (get_or fs j d)))) (ap (λ gs. number_of (func_names gs) n) q ∙ sym e))
 
-pub func_nowhere : (fs : List PlainFunc) (n : List ℕ) → has (funcs_named fs) n ≡ false → func_type fs n ≡ None
+pub func_nowhere : (fs : List PlainFunc) (n : List ℕ) → has (func_names fs) n ≡ false → func_type fs n ≡ None
 func_nowhere [] n h = refl
-func_nowhere (f ∷ fs) n h = nowhere_pick (bytes_eq f.name n) (has (funcs_named fs) n) (type_of_func f) (func_type fs n) h (func_nowhere fs n)
+func_nowhere (f ∷ fs) n h = nowhere_pick (bytes_eq f.name n) (has (func_names fs) n) (signature_of f) (func_type fs n) h (func_nowhere fs n)

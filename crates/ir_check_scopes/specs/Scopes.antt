@@ -6,16 +6,11 @@ use Rattle.std.proofs.Common.{Bor}
 use Rattle.ir_model.specs.declared.firmware.Func.{Func}
 use Rattle.ir_model.specs.declared.firmware.FileDecl.{FileDecl}
 use Rattle.ir_model.specs.declared.firmware.Firmware.{Firmware}
-use Rattle.ir_model.specs.Plain.{PlainFunc, func_of}
 use Rattle.ir_model.specs.FewItems.{HasFewItems}
 
 -- functions that are lent
 abbrev pub lent : List (Bor Func) → List Func
 lent fs = map (λ (f : Bor Func). f.now) fs
-
--- the same as plain data
-abbrev pub lent_funcs : List (Bor Func) → List PlainFunc
-lent_funcs fs = map (λ (f : Bor Func). func_of f.now) fs
 
 -- the functions of all files in order
 abbrev pub declared_funcs : Firmware → List Func

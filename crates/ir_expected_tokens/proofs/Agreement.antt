@@ -8,6 +8,7 @@ use Rattle.ir_reader.specs.Found.{Found, Is, Bad, End, Placed, colon_first}
 use Rattle.ir_reader.specs.Machine
 use Rattle.ir_reader.specs.Machine.{Move, Go, Stop, Skip, Step, To, Stuck, move, step, fault, may_end}
 use Rattle.ir_reader.specs.Scan.{placed}
+use Rattle.ir_reader.proofs.Ends.{fault_after}
 use Rattle.ir_expected_tokens.specs.declared.grammar.Class.TheVariants as class
 use Rattle.ir_expected_tokens.specs.declared.grammar.Symbol.{Symbol}
 use Rattle.ir_expected_tokens.specs.Expected.{taken}
@@ -16,6 +17,7 @@ use Rattle.ir_expected_tokens.specs.Stuck.{token_class, stuck}
 use Rattle.ir_expected_tokens.specs.Uncounted.{uncounted, all_uncounted}
 use Rattle.ir_expected_tokens.proofs.Closed.{token_goes_on, closed_after}
 use Rattle.ir_expected_tokens.proofs.Moves.{Follows, move_follows, end_stops}
+use Rattle.ir_expected_tokens.proofs.Steps.{going}
 
 -- what is taken, by a step of the machine
 abbrev pub ComesTo : Step → Option (List Symbol) → Type 0
@@ -36,15 +38,6 @@ pub step_follows : (ss : List Machine.Symbol) (t : model.Token) (c : Bool) → C
 step_follows [] t c = refl
 step_follows (s ∷ ss) t c =
     by_move (move s t c) ss (step ss t c) (taken (all_uncounted (s ∷ ss)) (token_class t) c) (taken (all_uncounted ss) (token_class t) c) (move_follows s t c (all_uncounted ss)) (step_follows ss t c)
-
--- the place of a fault, by what a step of the machine comes to, and what it comes to in the table
-abbrev pub fault_after : Placed → List Placed → Step → Option Fault
-fault_after p ps (To x more) = elim x [ None ↦ fault more ps | Some e ↦ Some (Machine.fault_at p e) ]
-fault_after p ps Stuck = Some (Machine.syntax_at p)
-
-abbrev pub going : List Symbol → Placed → List Placed → Option (List Symbol) → Option (List Symbol × Placed)
-going us p ps (Some more) = stuck more ps
-going us p ps None = Some (us, p)
 
 left_of : (p : Placed) (f : Fault) → Some (Machine.syntax_at p) ≡ Some f → p.left ≡ f.left
 left_of p f e = let same : Machine.syntax_at p ≡ f = cc in ap (λ (z : Fault). z.left) same

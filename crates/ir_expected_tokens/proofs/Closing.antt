@@ -14,6 +14,7 @@ use Rattle.ir_reader.specs.Machine
 use Rattle.ir_reader.specs.Machine.{Step, To, Stuck, step, fault, may_end}
 use Rattle.ir_reader.specs.Scan.{scan, placed, first_lexeme, Lexeme, lexeme, number_from, mark_found, dash, is_digit}
 use Rattle.ir_reader.proofs.Texts.{no_fault}
+use Rattle.ir_reader.proofs.Ends.{fault_after}
 use Rattle.ir_expected_tokens.specs.declared.grammar.Class.TheVariants as class
 use Rattle.ir_expected_tokens.specs.declared.grammar.Symbol.{Symbol}
 use Rattle.ir_expected_tokens.specs.Expected.{taken}
@@ -21,7 +22,8 @@ use Rattle.ir_expected_tokens.specs.Laws.{closed, EndsMayStand, TextsHaveNoLines
 use Rattle.ir_expected_tokens.specs.Stuck.{token_class, is_end, stuck}
 use Rattle.ir_expected_tokens.specs.SyntaxLines.{found_line, expected_line, last_bytes}
 use Rattle.ir_expected_tokens.specs.Uncounted.{all_uncounted}
-use Rattle.ir_expected_tokens.proofs.Agreement.{ComesTo, step_follows, fault_after, going}
+use Rattle.ir_expected_tokens.proofs.Agreement.{ComesTo, step_follows}
+use Rattle.ir_expected_tokens.proofs.Steps.{going}
 use Rattle.ir_expected_tokens.proofs.Closed.{token_goes_on, closed_after, gives_closed}
 use Rattle.ir_expected_tokens.proofs.Fitting.{fits, all_well}
 use Rattle.ir_expected_tokens.proofs.Moves.{end_stops}

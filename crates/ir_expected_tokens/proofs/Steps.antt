@@ -24,7 +24,7 @@ later_ends (code.Name w) rest h = cc
 later_ends _ rest h = cc
 
 -- what a place comes to, where this is expected behind it, or it cannot stand there
-abbrev going : List Symbol → Placed → List Placed → Option (List Symbol) → Option (List Symbol × Placed)
+abbrev pub going : List Symbol → Placed → List Placed → Option (List Symbol) → Option (List Symbol × Placed)
 going ss p ps (Some more) = stuck more ps
 going ss p ps None = Some (ss, p)
 

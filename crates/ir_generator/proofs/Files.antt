@@ -4,7 +4,7 @@ use Rattle.std.specs.Prelude.{codes, nat_eq}
 use Rattle.std.specs.List.{range_with_len}
 use Rattle.base_names.specs.Numbers.{has}
 use Rattle.ir_check_scopes.proofs.Order.{first_append}
-use Rattle.ir_model.specs.Plain.{PlainFunc, PlainFile}
+use Rattle.ir_model.specs.Plain.{PlainFunc, PlainFile, func_names}
 use Rattle.ir_model.specs.Typing.{first_failing, func_name_checks, file_checks}
 use Rattle.ir_generator.specs.declared.choices.Choice.{Choice}
 use Rattle.ir_generator.specs.Names.{test_name, file_name}
@@ -12,27 +12,24 @@ use Rattle.ir_generator.specs.Functions.{test_func}
 use Rattle.ir_generator.specs.Made.{held_from, test_file, support_file}
 use Rattle.ir_generator.proofs.Apart.{equal_numbers, tests_differ, files_differ, absent_behind, absent_append, by_test}
 
-abbrev pub names : List PlainFunc → List (List ℕ)
-names fs = map (λ (f : PlainFunc). f.name) fs
-
 -- a file has no function of another file
 skips : (m n : List ℕ) (rest : List (List ℕ)) → bytes_eq m n ≡ false → has rest n ≡ false → has (m ∷ rest) n ≡ false
 skips m n rest h k = rw h k
 
-pub held_elsewhere : (cs : List Choice) (k j n : ℕ) → k + length cs ≤ 200 → n < 200 → (n % 16 ≡ j → ⊥) → has (names (held_from k j cs)) (test_name n) ≡ false
+pub held_elsewhere : (cs : List Choice) (k j n : ℕ) → k + length cs ≤ 200 → n < 200 → (n % 16 ≡ j → ⊥) → has (func_names (held_from k j cs)) (test_name n) ≡ false
 held_elsewhere [] k j n l u h = refl
 held_elsewhere (c ∷ cs) k j n l u h =
-    by_test (λ (fs : List PlainFunc). has (names (fs ++ held_from (k + 1) j cs)) (test_name n) ≡ false) (nat_eq (k % 16) j) (test_func k c.body ∷ []) []
+    by_test (λ (fs : List PlainFunc). has (func_names (fs ++ held_from (k + 1) j cs)) (test_name n) ≡ false) (nat_eq (k % 16) j) (test_func k c.body ∷ []) []
     (λ t. let same : k % 16 ≡ j = equal_numbers (k % 16) j t in
-    skips (test_name k) (test_name n) (names (held_from (k + 1) j cs)) (tests_differ k n (omega arith) u (λ e. h (rw (sym e) same))) (held_elsewhere cs (k + 1) j n (omega arith) u h))
+    skips (test_name k) (test_name n) (func_names (held_from (k + 1) j cs)) (tests_differ k n (omega arith) u (λ e. h (rw (sym e) same))) (held_elsewhere cs (k + 1) j n (omega arith) u h))
     (λ t. held_elsewhere cs (k + 1) j n (omega arith) u h)
 
 -- and none with a name of another kind
-pub others_held : (cs : List Choice) (k j : ℕ) (n : List ℕ) → ((i : ℕ) → bytes_eq (test_name i) n ≡ false) → has (names (held_from k j cs)) n ≡ false
+pub others_held : (cs : List Choice) (k j : ℕ) (n : List ℕ) → ((i : ℕ) → bytes_eq (test_name i) n ≡ false) → has (func_names (held_from k j cs)) n ≡ false
 others_held [] k j n h = refl
 others_held (c ∷ cs) k j n h =
-    by_test (λ (fs : List PlainFunc). has (names (fs ++ held_from (k + 1) j cs)) n ≡ false) (nat_eq (k % 16) j) (test_func k c.body ∷ []) []
-    (λ t. skips (test_name k) n (names (held_from (k + 1) j cs)) (h k) (others_held cs (k + 1) j n h))
+    by_test (λ (fs : List PlainFunc). has (func_names (fs ++ held_from (k + 1) j cs)) n ≡ false) (nat_eq (k % 16) j) (test_func k c.body ∷ []) []
+    (λ t. skips (test_name k) n (func_names (held_from (k + 1) j cs)) (h k) (others_held cs (k + 1) j n h))
     (λ t. others_held cs (k + 1) j n h)
 
 -- the names of a file's functions are new
@@ -61,18 +58,18 @@ end_passes : (es seen : List (List ℕ)) → has es (codes "s.c") ≡ false → 
 end_passes es seen h k = rw (h, k) refl
 
 file_passes : (cs : List Choice) (j : ℕ) (es seen : List (List ℕ)) (more : List PlainFile) → has es (file_name j) ≡ false → first_failing (func_name_checks seen (held_from 0 j cs)) ≡ None
-    → first_failing (file_checks (es ++ file_name j ∷ []) (seen ++ names (held_from 0 j cs)) more) ≡ None
+    → first_failing (file_checks (es ++ file_name j ∷ []) (seen ++ func_names (held_from 0 j cs)) more) ≡ None
     → first_failing (file_checks es seen (test_file cs j ∷ more)) ≡ None
 file_passes cs j es seen more h p q =
-    rw h (first_append (func_name_checks seen (held_from 0 j cs)) (file_checks (es ++ file_name j ∷ []) (seen ++ names (held_from 0 j cs)) more) p ∙ q)
+    rw h (first_append (func_name_checks seen (held_from 0 j cs)) (file_checks (es ++ file_name j ∷ []) (seen ++ func_names (held_from 0 j cs)) more) p ∙ q)
 
-behind : (cs : List Choice) (j : ℕ) (es seen : List (List ℕ)) → length cs ≤ 200 → j < 16 → Before j es seen → Before (j + 1) (es ++ file_name j ∷ []) (seen ++ names (held_from 0 j cs))
+behind : (cs : List Choice) (j : ℕ) (es seen : List (List ℕ)) → length cs ≤ 200 → j < 16 → Before j es seen → Before (j + 1) (es ++ file_name j ∷ []) (seen ++ func_names (held_from 0 j cs))
 behind cs j es seen l u b =
     record {
       files = λ i a e. absent_behind es (file_name j) (file_name i) (b.files i (omega arith) e) (files_differ j i u e (λ q. absurd (omega arith)));
       last = absent_behind es (file_name j) (codes "s.c") b.last refl;
-      tests = λ n a e. absent_append seen (names (held_from 0 j cs)) (test_name n) (b.tests n a (omega arith)) (held_elsewhere cs 0 j n (omega arith) a (λ q. absurd (omega arith)));
-      support = absent_append seen (names (held_from 0 j cs)) (codes "s0") b.support (others_held cs 0 j (codes "s0") (λ i. refl));
+      tests = λ n a e. absent_append seen (func_names (held_from 0 j cs)) (test_name n) (b.tests n a (omega arith)) (held_elsewhere cs 0 j n (omega arith) a (λ q. absurd (omega arith)));
+      support = absent_append seen (func_names (held_from 0 j cs)) (codes "s0") b.support (others_held cs 0 j (codes "s0") (λ i. refl));
     }
 
 pub files_pass : (cs : List Choice) (m j : ℕ) (es seen : List (List ℕ)) → length cs ≤ 200 → j + m ≤ 16 → Before j es seen
@@ -81,4 +78,4 @@ files_pass cs zero j es seen l u b = end_passes es seen b.last b.support
 files_pass cs (suc m) j es seen l u b =
     file_passes cs j es seen (map (test_file cs) (range_with_len (j + 1) m) ++ support_file ∷ []) (b.files j (omega arith) (omega arith))
     (held_pass cs 0 j seen (omega arith) (λ n a e q. b.tests n e (omega arith)))
-    (files_pass cs m (j + 1) (es ++ file_name j ∷ []) (seen ++ names (held_from 0 j cs)) l (omega arith) (behind cs j es seen l (omega arith) b))
+    (files_pass cs m (j + 1) (es ++ file_name j ∷ []) (seen ++ func_names (held_from 0 j cs)) l (omega arith) (behind cs j es seen l (omega arith) b))

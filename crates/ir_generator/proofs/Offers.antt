@@ -7,7 +7,7 @@ use Rattle.std.proofs.lemmas.List.{map-append}
 use Rattle.base_names.specs.Numbers.{has}
 use Rattle.ir_model.specs.declared.firmware.Peripheral.{Peripheral}
 use Rattle.ir_model.specs.Types.{PlainType, U32, Pointer, Callee, none, more, nothing, gives}
-use Rattle.ir_model.specs.Plain.{PlainFunc, PlainFile}
+use Rattle.ir_model.specs.Plain.{PlainFunc, PlainFile, func_names}
 use Rattle.base_laws.specs.Lists.{Each}
 use Rattle.ir_model.specs.Resolve.{row_from}
 use Rattle.ir_model.specs.Rules.{func_type}
@@ -20,36 +20,35 @@ use Rattle.ir_generator.proofs.Proper.{at_each}
 use Rattle.std.specs.List.{list_all}
 use Rattle.ir_generator.proofs.Apart.{unequal_numbers, there_left, there_right, there_behind, equal, by_test, here_or_later}
 use Rattle.ir_generator.proofs.Globals.{global_there, global_is_word}
-use Rattle.ir_generator.proofs.Files.{names}
 use Rattle.ir_generator.proofs.CheckedFunctions.{Offers}
 
 -- the functions of files
 abbrev pub drawn : List Choice → (from count : ℕ) → List PlainFunc
 drawn cs j m = flat_map (λ (f : PlainFile). f.funcs) (map (test_file cs) (range_with_len j m) ++ support_file ∷ [])
 
-there_in_left : (xs ys : List PlainFunc) (n : List ℕ) → has (names xs) n ≡ true → has (names (xs ++ ys)) n ≡ true
-there_in_left xs ys n h = rw (map-append (λ (f : PlainFunc). f.name) xs ys) (there_left (names xs) (names ys) n h)
+there_in_left : (xs ys : List PlainFunc) (n : List ℕ) → has (func_names xs) n ≡ true → has (func_names (xs ++ ys)) n ≡ true
+there_in_left xs ys n h = rw (map-append (λ (f : PlainFunc). f.name) xs ys) (there_left (func_names xs) (func_names ys) n h)
 
-there_in_right : (xs ys : List PlainFunc) (n : List ℕ) → has (names ys) n ≡ true → has (names (xs ++ ys)) n ≡ true
-there_in_right xs ys n h = rw (map-append (λ (f : PlainFunc). f.name) xs ys) (there_right (names xs) (names ys) n h)
+there_in_right : (xs ys : List PlainFunc) (n : List ℕ) → has (func_names ys) n ≡ true → has (func_names (xs ++ ys)) n ≡ true
+there_in_right xs ys n h = rw (map-append (λ (f : PlainFunc). f.name) xs ys) (there_right (func_names xs) (func_names ys) n h)
 
-at_first : (a k : ℕ) (fs : List PlainFunc) (b : Body) → a ≡ k → has (names (test_func k b ∷ fs)) (test_name a) ≡ true
+at_first : (a k : ℕ) (fs : List PlainFunc) (b : Body) → a ≡ k → has (func_names (test_func k b ∷ fs)) (test_name a) ≡ true
 at_first a k fs b e = rw (e, equal (test_name k)) refl
 
-held_there : (cs : List Choice) (k j a : ℕ) → k ≤ a → a < k + length cs → a % 16 ≡ j → has (names (held_from k j cs)) (test_name a) ≡ true
+held_there : (cs : List Choice) (k j a : ℕ) → k ≤ a → a < k + length cs → a % 16 ≡ j → has (func_names (held_from k j cs)) (test_name a) ≡ true
 held_there [] k j a l u e = absurd (omega arith)
 held_there (c ∷ cs) k j a l u e =
-    by_test (λ (fs : List PlainFunc). has (names (fs ++ held_from (k + 1) j cs)) (test_name a) ≡ true) (nat_eq (k % 16) j) (test_func k c.body ∷ []) []
+    by_test (λ (fs : List PlainFunc). has (func_names (fs ++ held_from (k + 1) j cs)) (test_name a) ≡ true) (nat_eq (k % 16) j) (test_func k c.body ∷ []) []
     (λ t. elim (here_or_later a k l) [
       | inl q ↦ at_first a k (held_from (k + 1) j cs) c.body q
-      | inr g ↦ there_behind (test_name k) (test_name a) (names (held_from (k + 1) j cs)) (held_there cs (k + 1) j a g (omega arith) e)
+      | inr g ↦ there_behind (test_name k) (test_name a) (func_names (held_from (k + 1) j cs)) (held_there cs (k + 1) j a g (omega arith) e)
     ])
     (λ t. elim (here_or_later a k l) [
       | inl q ↦ absurd (unequal_numbers (k % 16) j t (rw (sym q) e))
       | inr g ↦ held_there cs (k + 1) j a g (omega arith) e
     ])
 
-drawn_there : (cs : List Choice) (m j a : ℕ) → j ≤ a % 16 → a % 16 < j + m → a < length cs → has (names (drawn cs j m)) (test_name a) ≡ true
+drawn_there : (cs : List Choice) (m j a : ℕ) → j ≤ a % 16 → a % 16 < j + m → a < length cs → has (func_names (drawn cs j m)) (test_name a) ≡ true
 drawn_there cs zero j a l u v = absurd (omega arith)
 drawn_there cs (suc m) j a l u v =
     elim (here_or_later (a % 16) j l) [
@@ -57,7 +56,7 @@ drawn_there cs (suc m) j a l u v =
       | inr g ↦ there_in_right (held_from 0 j cs) (drawn cs (j + 1) m) (test_name a) (drawn_there cs m (j + 1) a g (omega arith) v)
     ]
 
-support_there : (cs : List Choice) (m j : ℕ) → has (names (drawn cs j m)) (codes "s0") ≡ true
+support_there : (cs : List Choice) (m j : ℕ) → has (func_names (drawn cs j m)) (codes "s0") ≡ true
 support_there cs zero j = refl
 support_there cs (suc m) j = there_in_right (held_from 0 j cs) (drawn cs (j + 1) m) (codes "s0") (support_there cs m (j + 1))
 
@@ -85,10 +84,10 @@ typed_by : (b r : Bool) (x t : PlainType) (rest : Option PlainType) → cond b t
 typed_by true r x t rest h f g = ap Some (f refl)
 typed_by false r x t rest h f g = g h
 
-has_type : (fs : List PlainFunc) (n : List ℕ) (t : PlainType) → Each (HasType n t) fs → has (names fs) n ≡ true → func_type fs n ≡ Some t
+has_type : (fs : List PlainFunc) (n : List ℕ) (t : PlainType) → Each (HasType n t) fs → has (func_names fs) n ≡ true → func_type fs n ≡ Some t
 has_type [] n t e h = cc
 has_type (f ∷ fs) n t e h =
-    typed_by (bytes_eq f.name n) (has (names fs) n) (Callee (row_from f.params) f.outcome) t (func_type fs n) h e.0 (has_type fs n t e.1)
+    typed_by (bytes_eq f.name n) (has (func_names fs) n) (Callee (row_from f.params) f.outcome) t (func_type fs n) h e.0 (has_type fs n t e.1)
 
 false_true : {A : Type 0} → false ≡ true → A
 false_true h = absurd (let wrong : false ≡ true = h in cc)

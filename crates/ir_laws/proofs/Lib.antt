@@ -12,7 +12,7 @@ mod Globals
 mod Firmware
 mod Counts
 mod Sizes
-mod Windows
+pub mod Windows
 mod Declared
 pub mod Aligned
 pub mod GlobalShapes

@@ -3,7 +3,7 @@ use Rattle.std.proofs.Common.{◌≡◌, ℕ, zero, suc, ◌<◌, Bool, true, fa
 use Rattle.std.specs.Prelude.{bytes_eq, if◌then◌else◌}
 use Rattle.std.proofs.lemmas.List.{length-map}
 use Rattle.ir_model.specs.Types.{PlainType, Callee}
-use Rattle.ir_model.specs.Plain.{PlainBinding, PlainFunc, PlainGlobal, names_of}
+use Rattle.ir_model.specs.Plain.{PlainBinding, PlainFunc, PlainGlobal, names_of, func_names}
 use Rattle.ir_model.specs.Resolved.{NumberedFunc, no_func}
 use Rattle.base_names.specs.Numbers.{has, number_of}
 use Rattle.ir_model.specs.Resolve.{Scope, resolved_func, row_from}
@@ -17,18 +17,15 @@ number_in f xs n h = let a = number_below (map f xs) n h in let b = length-map x
 abbrev the_type : NumberedFunc → PlainType
 the_type g = Callee g.params g.outcome
 
-abbrev names : List PlainFunc → List (List ℕ)
-names fs = map (λ (f : PlainFunc). f.name) fs
-
 func_by : (s : Scope) (b : Bool) (f : PlainFunc) (fs : List PlainFunc) (n : List ℕ) (t : PlainType)
     → (if b then Some (Callee (row_from f.params) f.outcome) else func_type fs n) ≡ Some t
-    → (func_type fs n ≡ Some t → (number_of (names fs) n < length fs) × (the_type (get_or (map (resolved_func s) fs) (number_of (names fs) n) no_func) ≡ t))
-    → ((if b then zero else suc (number_of (names fs) n)) < suc (length fs)) × (the_type (get_or (map (resolved_func s) (f ∷ fs)) (if b then zero else suc (number_of (names fs) n)) no_func) ≡ t)
+    → (func_type fs n ≡ Some t → (number_of (func_names fs) n < length fs) × (the_type (get_or (map (resolved_func s) fs) (number_of (func_names fs) n) no_func) ≡ t))
+    → ((if b then zero else suc (number_of (func_names fs) n)) < suc (length fs)) × (the_type (get_or (map (resolved_func s) (f ∷ fs)) (if b then zero else suc (number_of (func_names fs) n)) no_func) ≡ t)
 func_by s true f fs n t h ih = (omega arith, cc)
 func_by s false f fs n t h ih = let i = ih h in let a = i.0 in (omega arith, i.1)
 
 pub func_found : (s : Scope) (fs : List PlainFunc) (n : List ℕ) (t : PlainType) → func_type fs n ≡ Some t
-    → (number_of (names fs) n < length fs) × (the_type (get_or (map (resolved_func s) fs) (number_of (names fs) n) no_func) ≡ t)
+    → (number_of (func_names fs) n < length fs) × (the_type (get_or (map (resolved_func s) fs) (number_of (func_names fs) n) no_func) ≡ t)
 func_found s [] n t h = cc
 func_found s (f ∷ fs) n t h = func_by s (bytes_eq f.name n) f fs n t h (func_found s fs n t)
 

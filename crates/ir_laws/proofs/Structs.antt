@@ -8,7 +8,7 @@ use Rattle.ir_model.specs.declared.check.CheckPlace.{CheckPlace}
 use Rattle.ir_model.specs.declared.check.CheckPlace.TheVariants as place
 use Rattle.ir_model.specs.Types.{PlainType, U8, U16, U32, Pointer, Array, Named, Callee}
 use Rattle.ir_model.specs.Plain.{PlainBinding, PlainStruct}
-use Rattle.ir_model.specs.Layout.{Shape, Known, FieldPlace, empty, shape_named, fields_named, array_of, shape, rounded_up, with_field, laid_out, field_places, with_struct, known_behind, known}
+use Rattle.ir_model.specs.Layout.{Shape, Known, FieldPlace, empty, shape_named, fields_named, array_of, shape, rounded_up, with_field, laid_out, field_places, with_struct, known_behind, known, names_of_known}
 use Rattle.base_names.specs.Numbers.{has}
 use Rattle.ir_model.specs.Resolve.{offset_named}
 use Rattle.base_laws.specs.Lists.{Each}
@@ -63,24 +63,21 @@ offset_in ks s (f ∷ fs) n a h =
 
 -- ---- a type of structs that are declared keeps its shape
 
-abbrev names_in : List Known → List (List ℕ)
-names_in ks = map (λ (k : Known). k.name) ks
-
 stays_by : (b : Bool) (s t u : Shape) (c : Bool) → (if b then true else c) ≡ true → (c ≡ true → t ≡ u) → (if b then s else t) ≡ (if b then s else u)
 stays_by true s t u c h r = refl
 stays_by false s t u c h r = r h
 
-named_stays : (ks more : List Known) (n : List ℕ) → has (names_in ks) n ≡ true → shape_named (ks ++ more) n ≡ shape_named ks n
+named_stays : (ks more : List Known) (n : List ℕ) → has (names_of_known ks) n ≡ true → shape_named (ks ++ more) n ≡ shape_named ks n
 named_stays [] more n h = cc
-named_stays (k ∷ ks) more n h = stays_by (bytes_eq k.name n) k.shape (shape_named (ks ++ more) n) (shape_named ks n) (has (names_in ks) n) h (named_stays ks more n)
+named_stays (k ∷ ks) more n h = stays_by (bytes_eq k.name n) k.shape (shape_named (ks ++ more) n) (shape_named ks n) (has (names_of_known ks) n) h (named_stays ks more n)
 
-shape_stays : (ds : List (List ℕ)) (p : CheckPlace) (ks more : List Known) (t : PlainType) → Pass (type_checks ds (names_in ks) p t) → shape (ks ++ more) t ≡ shape ks t
+shape_stays : (ds : List (List ℕ)) (p : CheckPlace) (ks more : List Known) (t : PlainType) → Pass (type_checks ds (names_of_known ks) p t) → shape (ks ++ more) t ≡ shape ks t
 shape_stays ds p ks more U8 h = refl
 shape_stays ds p ks more U16 h = refl
 shape_stays ds p ks more U32 h = refl
 shape_stays ds p ks more (Pointer t) h = refl
 shape_stays ds p ks more (Array n t) h = ap (array_of n) (shape_stays ds p ks more t h)
-shape_stays ds p ks more (Named n) h = named_stays ks more n (holds (has (names_in ks) n) (Unknown n) p [] h)
+shape_stays ds p ks more (Named n) h = named_stays ks more n (holds (has (names_of_known ks) n) (Unknown n) p [] h)
 shape_stays ds p ks more (Callee a r) h = refl
 
 -- the type of a field passes
@@ -117,8 +114,8 @@ with_more ks (s ∷ ss) =
     let r = with_more (with_struct ks s) ss in
     (k ++ r.0, r.1 ∙ append_assoc ks k r.0)
 
-names_last : (ks : List Known) (k : Known) (es : List PlainStruct) (s : PlainStruct) → names_in ks ≡ map (λ (e : PlainStruct). e.name) es → k.name ≡ s.name
-    → names_in (ks ++ k ∷ []) ≡ map (λ (e : PlainStruct). e.name) (es ++ s ∷ [])
+names_last : (ks : List Known) (k : Known) (es : List PlainStruct) (s : PlainStruct) → names_of_known ks ≡ map (λ (e : PlainStruct). e.name) es → k.name ≡ s.name
+    → names_of_known (ks ++ k ∷ []) ≡ map (λ (e : PlainStruct). e.name) (es ++ s ∷ [])
 names_last ks k es s h g =
     map-append (λ (j : Known). j.name) ks (k ∷ [])
     ∙ (ap (λ (x : List (List ℕ)). x ++ k.name ∷ []) h
@@ -129,7 +126,7 @@ behind_last ks [] s = refl
 behind_last ks (d ∷ ds) s = behind_last (with_struct ks d) ds s
 
 goods : (all : List Known) (ds : List (List ℕ)) (es : List PlainStruct) (ks : List Known) (ss : List PlainStruct)
-    → known_behind [] es ≡ ks → names_in ks ≡ map (λ (e : PlainStruct). e.name) es → AreSound ks → known_behind ks ss ≡ all → Pass (structs_checks ds es ss)
+    → known_behind [] es ≡ ks → names_of_known ks ≡ map (λ (e : PlainStruct). e.name) es → AreSound ks → known_behind ks ss ≡ all → Pass (structs_checks ds es ss)
     → Each (GoodIn all) ks → Each (GoodIn all) all
 unfolding known
 goods all ds es ks [] b n a e h g = subst (λ (x : List Known). Each (GoodIn all) x) e g

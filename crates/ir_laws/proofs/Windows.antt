@@ -16,8 +16,9 @@ use Rattle.ir_model.proofs.Passing.{Pass, left, right, holds, behind}
 use Rattle.ir_model.proofs.Typed.{parts_pass}
 use Rattle.ir_laws.specs.Limits.{HasWindows}
 
-abbrev IsWindow : NumberedWindow → Type 0
-IsWindow q = IsWindowRange q.base q.size
+-- a window may have this base and size
+abbrev pub HasRange : NumberedWindow → Type 0
+HasRange q = IsWindowRange q.base q.size
 
 abbrev AreDisjoint : NumberedWindow → NumberedWindow → Type 0
 AreDisjoint q r = AreApart q.base q.size r.base r.size
@@ -36,7 +37,7 @@ apart_from q (e ∷ es) h =
 -- each window, with those before it
 abbrev AllApart : (earlier : List Peripheral) → List Peripheral → Type 0
 AllApart es [] = Unit {0}
-AllApart es (q ∷ qs) = IsWindow (window_of q) × ApartFrom q es × AllApart (es ++ q ∷ []) qs
+AllApart es (q ∷ qs) = HasRange (window_of q) × ApartFrom q es × AllApart (es ++ q ∷ []) qs
 
 all_apart : (es qs : List Peripheral) → Pass (periph_checks es qs) → AllApart es qs
 all_apart es [] h = tt
@@ -56,7 +57,7 @@ all_apart es (q ∷ qs) h =
 abbrev at_number : List Peripheral → ℕ → NumberedWindow
 at_number qs k = get_or (map window_of qs) k no_window
 
-each_window : (es qs : List Peripheral) (k : ℕ) → AllApart es qs → k < length qs → IsWindow (at_number qs k)
+each_window : (es qs : List Peripheral) (k : ℕ) → AllApart es qs → k < length qs → HasRange (at_number qs k)
 each_window es [] k h l = absurd (omega arith)
 each_window es (q ∷ qs) zero h l = h.0
 each_window es (q ∷ qs) (suc k) h l = each_window (es ++ q ∷ []) qs k h.2 (omega arith)

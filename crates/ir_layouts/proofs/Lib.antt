@@ -1,6 +1,6 @@
 mod Cases
 pub mod SmallStructs
-mod Places
+pub mod Places
 pub mod Sizes
 mod Entries
 pub mod Capped

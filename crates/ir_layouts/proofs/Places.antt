@@ -58,6 +58,7 @@ first_behind : (n : List ℕ) (v : Known) (ks : List Known) (ss : List PlainStru
 first_behind n v ks [] f = f
 first_behind n v ks (s ∷ ss) f = first_behind n v (ks ++ entry ks s ∷ []) ss (first_more n v ks _ f)
 
+-- the names of structs
 abbrev pub struct_names : List StructDecl → List (List ℕ)
 struct_names ss = map (λ (s : StructDecl). s.name) ss
 

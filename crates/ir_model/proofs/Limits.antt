@@ -23,7 +23,8 @@ use Rattle.ir_model.proofs.Elements.{type_elements}
 use Rattle.ir_model.proofs.NoExcess.{first_none, counted_none, number_fits}
 use Rattle.base_laws.proofs.Lists.{each_both, each_left, each_right}
 
-abbrev Quiet : Line → Type 0
+-- no token of a line passes a limit
+abbrev pub Quiet : Line → Type 0
 Quiet l = Each PassesNothing l
 
 abbrev Proper : Line → Type 0

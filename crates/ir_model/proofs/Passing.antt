@@ -12,7 +12,8 @@ append_left [] ys h = refl
 append_left (None ∷ xs) ys h = append_left xs ys h
 append_left (Some e ∷ xs) ys h = cc
 
-append_right : (xs ys : Checks) → first_failing (xs ++ ys) ≡ None → first_failing ys ≡ None
+-- the second of joined lists of checks, where all of both pass
+pub append_right : (xs ys : Checks) → first_failing (xs ++ ys) ≡ None → first_failing ys ≡ None
 append_right [] ys h = h
 append_right (None ∷ xs) ys h = append_right xs ys h
 append_right (Some e ∷ xs) ys h = cc

@@ -1,14 +1,19 @@
 -- Two types are the same exactly where they are equal; and a row of types as the code holds it is that of its types.
-use Rattle.std.proofs.Common.{◌≡◌, ◌↔◌, IsTrue, nat_eq, true, map, refl, sym, ap, ◌∙◌}
+use Rattle.std.proofs.Common.{◌≡◌, ◌↔◌, IsTrue, nat_eq, true, map, refl, sym, ap, ◌∙◌, rules}
 use Rattle.std.specs.Cmp.Derive.{both_true}
 use Rattle.std.proofs.lemmas.Bool.{and_parts, eqb-true, eq-eqb}
 use Rattle.std.proofs.lemmas.Slice.Eq.{bytes_eq-Decides}
 use Rattle.ir_model.specs.declared.types.Ty as code
-use Rattle.ir_model.specs.Types.{PlainType, U8, U16, U32, Pointer, Array, Named, Callee, PlainTypes, none, more, PlainResult, nothing, gives, type_of, row_of, types_from, same, same_row, same_result}
+use Rattle.ir_model.specs.declared.types.Signature.{Signature}
+use Rattle.ir_model.specs.Types.{PlainType, U8, U16, U32, Pointer, Array, Named, Callee, PlainTypes, none, more, PlainResult, nothing, gives, type_of, row_of, types_from, boxed_result_of, same, same_row, same_result}
 
 pub rows : (n : _) (k : code.Row_of-Ty n) → row_of k ≡ types_from (map type_of (code.items-the_row-Ty n k))
 rows n code.end_of-Ty = refl
 rows n (code.more_of-Ty t r) = ap (more (type_of t)) (rows _ r)
+
+-- the type of a function, as the code holds it
+pub callee_is : (s : Signature) → type_of (code.Callee s) ≡ Callee (types_from (map type_of s.params)) (boxed_result_of s.«result»)
+callee_is s = search (rules, code.the_lemmas, rows)
 
 mutual
   pub same_sound : (t u : PlainType) → same t u ≡ true → t ≡ u

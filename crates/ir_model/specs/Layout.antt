@@ -1,5 +1,5 @@
 -- Sizes, alignments, and where the cells of a type lie. Sizes and offsets are in bytes.
-use Rattle.std.specs.Prelude.{ℕ, zero, suc, ◌+◌, ◌-◌, ◌*◌, ◌/◌, List, [], ◌∷◌, ◌++◌, if◌then◌else◌, max, Option, Some, None, ◌&&◌, nat_eq, bytes_eq}
+use Rattle.std.specs.Prelude.{ℕ, zero, suc, ◌+◌, ◌-◌, ◌*◌, ◌/◌, List, [], ◌∷◌, ◌++◌, map, if◌then◌else◌, max, Option, Some, None, ◌&&◌, nat_eq, bytes_eq}
 use Rattle.ir_model.specs.Types.{PlainType, U8, U16, U32, Pointer, Array, Named, Callee, same}
 use Rattle.ir_model.specs.Plain.{PlainBinding, PlainStruct}
 
@@ -27,6 +27,10 @@ pub record Known : Type 0 where
 
 abbrev pub empty : Shape
 empty = record { size = 0; align = 1; cells = [] }
+
+-- the names of structs that are laid out
+abbrev pub names_of_known : List Known → List (List ℕ)
+names_of_known ks = map (λ (k : Known). k.name) ks
 
 -- by the first struct of a name
 abbrev pub shape_named : List Known → List ℕ → Shape

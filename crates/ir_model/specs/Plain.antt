@@ -1,5 +1,6 @@
 -- A firmware as plain data. Names are lists of bytes; what holds no type is as the code has it.
 use Rattle.std.specs.Prelude.{ℕ, List, ◌++◌, map, flat_map, Bool}
+use Rattle.std.specs.Borrow.{Bor}
 use Rattle.ir_model.specs.declared.firmware.Binding.{Binding}
 use Rattle.ir_model.specs.declared.firmware.StructDecl.{StructDecl}
 use Rattle.ir_model.specs.declared.firmware.Peripheral.{Peripheral}
@@ -81,9 +82,17 @@ names_of ss = map (λ (s : PlainBinding). s.name) ss
 abbrev pub types_of : List PlainBinding → List PlainType
 types_of ss = map (λ (s : PlainBinding). s.ty) ss
 
+-- the names of functions
+abbrev pub func_names : List PlainFunc → List (List ℕ)
+func_names fs = map (λ (f : PlainFunc). f.name) fs
+
 -- the functions of all files in order, by which they have their numbers
 abbrev pub funcs_of : PlainFirmware → List PlainFunc
 funcs_of w = flat_map (λ (f : PlainFile). f.funcs) w.files
+
+-- functions that are lent, as plain data
+abbrev pub lent_funcs : List (Bor Func) → List PlainFunc
+lent_funcs fs = map (λ (f : Bor Func). func_of f.now) fs
 
 -- the registers of a function, its parameters first
 abbrev pub regs_of : PlainFunc → List PlainBinding

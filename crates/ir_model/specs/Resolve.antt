@@ -10,7 +10,7 @@ use Rattle.ir_model.specs.declared.firmware.Block.{Block}
 use Rattle.ir_model.specs.declared.firmware.Cell.{Cell}
 use Rattle.ir_model.specs.declared.firmware.Cell.TheVariants.{Word, Function, Address}
 use Rattle.ir_model.specs.declared.firmware.Peripheral.{Peripheral}
-use Rattle.ir_model.specs.Types.{PlainType, U32, Named, PlainTypes, none, more, target_of, element_of, is_integer}
+use Rattle.ir_model.specs.Types.{PlainType, U32, Named, Callee, PlainTypes, none, more, target_of, element_of, is_integer}
 use Rattle.ir_model.specs.Plain.{PlainBinding, PlainFunc, PlainGlobal, PlainFile, PlainFirmware, names_of, types_of, funcs_of, regs_of}
 use Rattle.ir_model.specs.Layout.{Known, known, Shape, shape, FieldPlace, fields_named, CellPlace}
 use Rattle.ir_model.specs.Resolved.{OfGlobal, OfPeriph, Value, Number, Code, Null, At, TheGlobal, ThePeriph, TheLocal, NumberedInst, Const, Move, Bin, Cmp, Addr, FAddr, Elem, Field, Load, Store, Call, ICall, NumberedTerm, Jump, Branch, Ret, NumberedBlock, NumberedFunc, NumberedGlobal, NumberedWindow, Program}
@@ -35,6 +35,10 @@ scope_of w =
 abbrev pub row_from : List PlainBinding → PlainTypes
 row_from [] = none
 row_from (s ∷ ss) = more s.ty (row_from ss)
+
+-- the type of a function
+abbrev pub signature_of : PlainFunc → PlainType
+signature_of f = Callee (row_from f.params) f.outcome
 
 abbrev pub register_number : PlainFunc → List ℕ → ℕ
 register_number f n = number_of (names_of (regs_of f)) n

@@ -24,6 +24,11 @@ is_blank b = nat_eq b 32 || (nat_eq b 9 || (nat_eq b 13 || nat_eq b 10))
 abbrev pub opens_comment : ℕ → Bool
 opens_comment b = nat_eq b 35
 
+-- neither a blank nor a comment begins there
+abbrev pub StartsToken : List ℕ → Type 0
+StartsToken [] = Unit {0}
+StartsToken (b ∷ bs) = (is_blank b ≡ false) × (opens_comment b ≡ false)
+
 abbrev pub is_inside_line : ℕ → Bool
 is_inside_line b = not (nat_eq b 10)
 

@@ -232,6 +232,10 @@ funcs_checks w (f ∷ fs) = func_checks w f ++ funcs_checks w fs
 abbrev pub has_main : PlainFirmware → Bool
 has_main w = is_type (func_type (funcs_of w) main_name) (Callee none nothing)
 
+-- the checks of all structs and peripherals, which come first
+abbrev pub declared_checks : PlainFirmware → Checks
+declared_checks w = structs_checks (map (λ (s : PlainStruct). s.name) w.structs) [] w.structs ++ periph_checks [] w.periphs
+
 unfoldable pub checks : PlainFirmware → Checks
 checks w =
     structs_checks (map (λ (s : PlainStruct). s.name) w.structs) [] w.structs

@@ -4,8 +4,8 @@ use Rattle.std.proofs.lemmas.List.{length-map}
 use Rattle.machine_devices.specs.declared.image.Window.{Window}
 use Rattle.ir_model.specs.declared.firmware.Peripheral.{Peripheral}
 use Rattle.ir_model.specs.Plain.{PlainFirmware}
-use Rattle.ir_model.specs.Lines.{Line, struct_lines, periph_lines, global_lines, file_lines, lines_of}
-use Rattle.ir_model.specs.Canonical.{PassesNothing, IsWithinLimits}
+use Rattle.ir_model.specs.Lines.{struct_lines, periph_lines, global_lines, file_lines, lines_of}
+use Rattle.ir_model.specs.Canonical.{IsWithinLimits}
 use Rattle.base_laws.specs.Lists.{Each}
 use Rattle.base_laws.proofs.Lists.{each_left, each_right}
 use Rattle.ir_model.specs.Resolved.{Program}
@@ -13,6 +13,7 @@ use Rattle.ir_model.specs.Resolve as spans
 use Rattle.ir_model.specs.Resolve.{resolve}
 use Rattle.ir_model.specs.State.{start}
 use Rattle.ir_model.proofs.NoExcess.{word_short}
+use Rattle.ir_model.proofs.Limits.{Quiet}
 use Rattle.ir_program.specs.Windows.{window_of, windows_of}
 use Rattle.ir_run.specs.Runs.{RunState}
 use Rattle.machine_lines.specs.Lines.{name_of}
@@ -26,9 +27,6 @@ goes_at_first p queues = refl
 pub as_many : (w : PlainFirmware) → length (windows_of w) ≡ length (resolve w).periphs
 unfolding resolve
 as_many w = length-map w.periphs window_of ∙ sym (length-map w.periphs spans.window_of)
-
-abbrev Quiet : Line → Type 0
-Quiet l = Each PassesNothing l
 
 short_at : (before : ℕ) (ps : List Peripheral) (k : ℕ) → Each Quiet (periph_lines before ps) → length (name_of (map window_of ps) k) ≤ 64
 short_at before [] k h = let e : 0 ≤ 64 = omega arith in e

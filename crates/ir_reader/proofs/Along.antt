@@ -8,11 +8,11 @@ use Rattle.ir_model.specs.Plain.{PlainFirmware}
 use Rattle.ir_model.specs.Tokens.{Token, Name, Number, Key, Operation, Comparison, Sign, Marked}
 use Rattle.ir_model.specs.Lines.{Line, marked, lines_of, word_excess, counted, or_else}
 use Rattle.ir_model.specs.declared.token.TextLimit.TheVariants as limit
-use Rattle.ir_model.specs.Texts.{joined, tokens, IsText, Spells, IsApart, Leads, Begins, NoneBegins, Reaches, IsUnexpected, end, nothing, token, IsSyntaxFault, begins_colon, is_colon, IsPassed}
+use Rattle.ir_model.specs.Texts.{joined, tokens, IsText, Spells, IsApart, Leads, Begins, NoneBegins, Reaches, IsUnexpected, end, nothing, token, IsSyntaxFault, begins_colon, is_colon, IsPassed, StartsToken}
 use Rattle.ir_reader.specs.Found.{Is, Placed, finds, colon_first}
 use Rattle.ir_reader.specs.Machine
 use Rattle.ir_reader.specs.Machine.{Symbol, Move, Go, Stop, Skip, To, step, move, Structs}
-use Rattle.ir_reader.specs.Scan.{placed, StartsToken}
+use Rattle.ir_reader.specs.Scan.{placed}
 use Rattle.ir_reader.proofs.Firsts.{spelled_at, has_colon, is_the_colon, free_front}
 use Rattle.ir_model.proofs.NoExcess.{second_none, IsNarrow}
 use Rattle.ir_reader.proofs.Lang.{Langs, well}

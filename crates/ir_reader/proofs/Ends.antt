@@ -17,15 +17,16 @@ Alike a b (Is t) = (c : Bool) → step a t c ≡ step b t c
 Alike a b Bad = Unit {0}
 Alike a b End = Machine.may_end a ≡ Machine.may_end b
 
-abbrev pub after : Placed → List Placed → Step → Option Fault
-after p ps (To x more) = elim x [ None ↦ fault more ps | Some e ↦ Some (Machine.fault_at p e) ]
-after p ps Stuck = Some (Machine.syntax_at p)
+-- the first fault from a place on, by what a step of the machine comes to there
+abbrev pub fault_after : Placed → List Placed → Step → Option Fault
+fault_after p ps (To x more) = elim x [ None ↦ fault more ps | Some e ↦ Some (Machine.fault_at p e) ]
+fault_after p ps Stuck = Some (Machine.syntax_at p)
 
 alike : (a b : List Symbol) (p : Placed) (ps : List Placed) → Alike a b p.found → fault a (p ∷ ps) ≡ fault b (p ∷ ps)
 alike a b p ps h = by_found p.found h
   where
     by_found : (f : Found) → Alike a b f → fault a (record { found = f; left = p.left } ∷ ps) ≡ fault b (record { found = f; left = p.left } ∷ ps)
-    by_found (Is t) h = ap (after (record { found = Is t; left = p.left }) ps) (h (colon_first ps))
+    by_found (Is t) h = ap (fault_after (record { found = Is t; left = p.left }) ps) (h (colon_first ps))
     by_found Bad h = refl
     by_found End h = rw h refl
 
@@ -39,7 +40,7 @@ alike_at : (a b : List Symbol) (p : Placed) (ps : List Placed) → AlikeAt a b p
 alike_at a b p ps h = by_found p.found h
   where
     by_found : (f : Found) → AlikeAt a b f (colon_first ps) → fault a (record { found = f; left = p.left } ∷ ps) ≡ fault b (record { found = f; left = p.left } ∷ ps)
-    by_found (Is t) h = ap (after (record { found = Is t; left = p.left }) ps) h
+    by_found (Is t) h = ap (fault_after (record { found = Is t; left = p.left }) ps) h
     by_found Bad h = refl
     by_found End h = rw h refl
 

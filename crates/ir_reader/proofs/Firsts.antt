@@ -11,7 +11,7 @@ use Rattle.base_laws.specs.Lists.{Each}
 use Rattle.ir_model.specs.Plain.{PlainFirmware, funcs_of}
 use Rattle.ir_model.specs.Tokens.{Token, Sign, Marked}
 use Rattle.ir_model.specs.Lines.{Line, marked, lines_of}
-use Rattle.ir_model.specs.Texts.{joined, tokens, Spells, IsApart, Leads, here, blank, comment, token, IsFree, Begins, NoneBegins, NoneIs, Reaches, BeginsNothing, IsUnexpected, end, nothing, HasColon, begins_colon, Agrees, same, none, IsPlace, SyntaxAt, PassesAt}
+use Rattle.ir_model.specs.Texts.{joined, tokens, Spells, IsApart, Leads, here, blank, comment, token, IsFree, Begins, NoneBegins, NoneIs, Reaches, BeginsNothing, IsUnexpected, end, nothing, HasColon, begins_colon, Agrees, same, none, IsPlace, SyntaxAt, PassesAt, StartsToken}
 use Rattle.ir_model.specs.Texts as texts
 use Rattle.ir_reader.specs.declared.error.Fault.{Fault}
 use Rattle.ir_reader.specs.declared.error.FaultKind.{FaultKind}
@@ -24,7 +24,7 @@ use Rattle.ir_reader.specs.Machine.{Symbol, To, step, fault, Structs}
 use Rattle.ir_reader.specs.Parts.{HasBlocks}
 use Rattle.ir_reader.specs.Reading.{HasFields}
 use Rattle.ir_reader.specs.Refusals.{Refuses, IsAt}
-use Rattle.ir_reader.specs.Scan.{placed, StartsToken, first_lexeme, lexeme_of}
+use Rattle.ir_reader.specs.Scan.{placed, first_lexeme, lexeme_of}
 use Rattle.ir_reader.proofs.Allow.{only, stands}
 use Rattle.ir_reader.proofs.Complete.{Free, complete, Choice, some_such, none_such, choose}
 use Rattle.ir_reader.proofs.Lang

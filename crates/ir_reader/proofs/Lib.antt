@@ -1,7 +1,7 @@
 mod Tables
 mod Kept
 pub mod Scanning
-mod Ends
+pub mod Ends
 mod Separated
 mod Values
 mod Lang

@@ -12,10 +12,10 @@ use Rattle.ir_model.specs.declared.token.Mark.{Mark}
 use Rattle.ir_model.specs.declared.token.Mark.TheVariants as mark
 use Rattle.base_laws.specs.Lists.{Each}
 use Rattle.ir_model.specs.Tokens.{Token, Name, Number, Key, Operation, Comparison, Sign, mark_bytes}
-use Rattle.ir_model.specs.Texts.{is_blank, opens_comment, is_inside_line, EndsLine, Spells, EndsWord, IsApart, Leads, here, blank, comment, token}
+use Rattle.ir_model.specs.Texts.{is_blank, opens_comment, is_inside_line, EndsLine, Spells, EndsWord, IsApart, Leads, here, blank, comment, token, StartsToken}
 use Rattle.ir_reader.specs.Found.{Found, Is, Bad, End, Placed, finds}
 use Rattle.ir_reader.specs.Words.{word_token}
-use Rattle.ir_reader.specs.Scan.{placed, StartsToken, first_lexeme, number_from, mark_found, dash, is_digit, Lexeme, lexeme}
+use Rattle.ir_reader.specs.Scan.{placed, first_lexeme, number_from, mark_found, dash, is_digit, Lexeme, lexeme}
 use Rattle.ir_reader.proofs.Tables.{name_free, word_is_spelled, IsSpelled}
 use Rattle.ir_reader.proofs.Scanning.{placed_blank, placed_comment, placed_nil, placed_token, run_is_word, prefix_len_some, take_run, digit_continues, opens_at}
 

@@ -13,7 +13,7 @@ use Rattle.ir_reader.specs.Machine.{Symbol, Move, Go, Stop, Skip, To, step, faul
 use Rattle.ir_model.proofs.NoExcess.{second_none, name_of_short, depth_behind, number_fits, length_fits, IsNarrow}
 use Rattle.ir_reader.proofs.Lang.{Langs, well}
 use Rattle.ir_reader.proofs.Theorem.{steps, text_of, colon_same, fault_token, kept}
-use Rattle.ir_reader.proofs.Ends.{after}
+use Rattle.ir_reader.proofs.Ends.{fault_after}
 use Rattle.ir_reader.proofs.Values.{stepped}
 use Rattle.base_laws.proofs.Lists.{each_both, each_left, each_right}
 
@@ -66,7 +66,7 @@ short_from (p ∷ ps) st w (m ∷ ms) l same e =
     let h : p.found ≡ Is m.token = cc in
     let rest : finds ps ≡ text_of ms = cc in
     let c = colon_same ps ms rest in
-    let goes : fault st (p ∷ ps) ≡ after p ps (To m.excess s.stack) = fault_token st p ps m.token h ∙ (rw c (ap (after p ps) s.goes)) in
+    let goes : fault st (p ∷ ps) ≡ fault_after p ps (To m.excess s.stack) = fault_token st p ps m.token h ∙ (rw c (ap (fault_after p ps) s.goes)) in
     let k = kept p ps m.excess s.stack (sym goes ∙ e) in
     (is_short st m.token _ m.excess s.stack k.0 s.goes, short_from ps s.stack s.well ms s.others rest k.1)
 

@@ -5,13 +5,13 @@ use Rattle.std.specs.List.{prefix_len, take_while, list_all}
 use Rattle.std.proofs.lemmas.List.Sums.{take_while-cons}
 use Rattle.std.proofs.lemmas.Bool.{eqb-true}
 use Rattle.base_names.specs.Names.{begins_word, continues_word, is_word}
-use Rattle.ir_model.specs.Texts.{is_blank, is_inside_line, opens_comment}
+use Rattle.ir_model.specs.Texts.{is_blank, is_inside_line, opens_comment, StartsToken}
 use Rattle.ir_model.specs.Tokens as model
 use Rattle.ir_reader.specs.declared.token.Token.{Token}
 use Rattle.ir_reader.specs.declared.token.Token.TheVariants as code
 use Rattle.ir_reader.specs.Found.{Is, End, found_of}
 use Rattle.ir_reader.specs.Words.{word_token}
-use Rattle.ir_reader.specs.Scan.{scan, placed, later, BeginsWith, StartsToken, GoesOn, IsProper, first_lexeme, lexeme_of, is_digit}
+use Rattle.ir_reader.specs.Scan.{scan, placed, later, BeginsWith, GoesOn, IsProper, first_lexeme, lexeme_of, is_digit}
 use Rattle.ir_reader.proofs.Tables.{name_free}
 
 pub scan_drop : (k : ℕ) (bs : List ℕ) → scan k bs ≡ placed (drop k bs)

@@ -9,12 +9,12 @@ use Rattle.base_laws.specs.Lists.{Each}
 use Rattle.ir_model.specs.Plain.{PlainFirmware}
 use Rattle.ir_model.specs.Tokens.{Token, Name, Number, Key, Operation, Comparison, Sign, Marked}
 use Rattle.ir_model.specs.Lines.{Line, marked, lines_of, number_excess, length_excess}
-use Rattle.ir_model.specs.Texts.{joined, tokens, IsText, Begins, NoneBegins, IsUnexpected, end, nothing, token, begins_colon, IsPassed, IsPlace, is_inside_line, SyntaxAt, PassesAt}
+use Rattle.ir_model.specs.Texts.{joined, tokens, IsText, Begins, NoneBegins, IsUnexpected, end, nothing, token, begins_colon, IsPassed, IsPlace, is_inside_line, SyntaxAt, PassesAt, StartsToken}
 use Rattle.ir_reader.specs.Laws.{FaultsAreSingle, TextsAreFaultless}
 use Rattle.ir_reader.specs.Found.{Is, End, Placed, colon_first}
 use Rattle.ir_reader.specs.Machine
 use Rattle.ir_reader.specs.Machine.{Symbol, Move, Go, Stop, Skip, To, step, move, Structs}
-use Rattle.ir_reader.specs.Scan.{placed, StartsToken}
+use Rattle.ir_reader.specs.Scan.{placed}
 use Rattle.ir_reader.proofs.Allow.{stands}
 use Rattle.ir_reader.proofs.Firsts.{spelled_at, left_of, has_colon, begins_from}
 use Rattle.ir_reader.proofs.Complete.{Free}

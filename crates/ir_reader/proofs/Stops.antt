@@ -16,7 +16,7 @@ use Rattle.ir_reader.specs.Machine
 use Rattle.ir_reader.specs.Machine.{Symbol, Move, Go, Stop, Skip, Step, To, Stuck, step, fault, move, may_end}
 use Rattle.ir_reader.proofs.Lang.{Langs, well}
 use Rattle.ir_reader.proofs.Allow.{stands}
-use Rattle.ir_reader.proofs.Ends.{after}
+use Rattle.ir_reader.proofs.Ends.{fault_after}
 use Rattle.ir_reader.proofs.Values.{stepped}
 use Rattle.ir_reader.proofs.Theorem.{steps, TakesToken}
 
@@ -197,7 +197,7 @@ at_once st p ps g f i v e =
     })
 
 by_step : (st : List Symbol) (left : ℕ) (ps : List Placed) (t : Token) (f : Fault) → ((st : List Symbol) → fault st ps ≡ Some f → Stopped st ps f) → (s : Step) → step st t (colon_first ps) ≡ s
-    → after (record { found = Is t; left = left }) ps s ≡ Some f → Stopped st (record { found = Is t; left = left } ∷ ps) f
+    → fault_after (record { found = Is t; left = left }) ps s ≡ Some f → Stopped st (record { found = Is t; left = left } ∷ ps) f
 by_step st left ps t f again (To None stack) i e = grown st stack left ps t f i (again stack e)
 by_step st left ps t f again (To (Some x) stack) i e = at_once st (record { found = Is t; left = left }) ps (Machine.fault_at (record { found = Is t; left = left }) x) f refl (over t x stack refl i) e
 by_step st left ps t f again Stuck i e = at_once st (record { found = Is t; left = left }) ps (Machine.syntax_at (record { found = Is t; left = left })) f refl (stuck t refl i) e

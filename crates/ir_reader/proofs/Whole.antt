@@ -18,10 +18,10 @@ use Rattle.ir_model.specs.declared.token.Mark.{Mark}
 use Rattle.ir_model.specs.declared.token.Mark.TheVariants as mark
 use Rattle.base_laws.specs.Lists.{Each}
 use Rattle.ir_model.specs.Tokens.{Token, Name, Number, Key, Operation, Comparison, Sign, mark_bytes, keyword_bytes, operation_bytes, comparison_bytes}
-use Rattle.ir_model.specs.Texts.{is_blank, opens_comment, is_inside_line, EndsLine, StandsFor, Spells, EndsWord, IsApart, Leads, here, blank, comment, token}
+use Rattle.ir_model.specs.Texts.{is_blank, opens_comment, is_inside_line, EndsLine, StandsFor, Spells, EndsWord, IsApart, Leads, here, blank, comment, token, StartsToken}
 use Rattle.ir_reader.specs.Found.{Is, Placed, finds}
 use Rattle.ir_reader.specs.Words.{word_token}
-use Rattle.ir_reader.specs.Scan.{placed, StartsToken, first_lexeme, lexeme_of, number_from, is_digit, Lexeme, lexeme}
+use Rattle.ir_reader.specs.Scan.{placed, first_lexeme, lexeme_of, number_from, is_digit, Lexeme, lexeme}
 use Rattle.ir_reader.proofs.Tables.{free_name, keyword_token, operation_token, comparison_token}
 use Rattle.ir_reader.proofs.Scanning.{placed_blank, placed_comment, placed_token, begins_continues, digit_continues, opens_at}
 use Rattle.base_laws.proofs.Lists.{each_from_list_all}

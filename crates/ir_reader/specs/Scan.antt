@@ -91,11 +91,6 @@ abbrev pub IsProper : Code → Type 0
 IsProper (code.Name w) = (is_word w.now ≡ true) × (is_reserved w.now ≡ false)
 IsProper _ = Unit {0}
 
--- no blank and no comment is at the front
-abbrev pub StartsToken : List ℕ → Type 0
-StartsToken [] = Unit {0}
-StartsToken (b ∷ bs) = (is_blank b ≡ false) × (opens_comment b ≡ false)
-
 -- the token isn't the end
 abbrev pub GoesOn : Code → Type 0
 GoesOn code.End = ⊥

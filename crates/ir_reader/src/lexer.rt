@@ -4,10 +4,10 @@ ghost use Rattle.std.specs.Prelude.{◌≡◌, ◌≤◌, ◌<◌, length};
 ghost use Rattle.std.specs.List.{prefix_len};
 ghost use Rattle.base_names.specs.Names.{continues_word, is_word};
 ghost use Rattle.base_numerals.specs.Numerals.{numeral};
-ghost use Rattle.ir_model.specs.Texts.{is_blank, is_inside_line};
+ghost use Rattle.ir_model.specs.Texts.{is_blank, is_inside_line, StartsToken};
 ghost use Rattle.ir_reader.specs.Found.{found_of, Is};
 ghost use Rattle.ir_reader.specs.Words.{word_token};
-ghost use Rattle.ir_reader.specs.Scan.{placed, StartsToken, GoesOn, IsProper, BeginsWith, lexeme_of, mark_found, number_from, is_digit};
+ghost use Rattle.ir_reader.specs.Scan.{placed, GoesOn, IsProper, BeginsWith, lexeme_of, mark_found, number_from, is_digit};
 ghost use Rattle.std.specs.Prelude.{true, ◌∷◌};
 ghost use Rattle.ir_reader.specs.Scan as scan;
 

@@ -10,10 +10,10 @@ use Rattle.ir_model.specs.declared.check.CheckPlace.{CheckPlace}
 use Rattle.ir_model.specs.declared.check.CheckPlace.TheVariants as place
 use Rattle.ir_model.specs.declared.firmware.Block.{Block}
 use Rattle.ir_model.specs.declared.firmware.Peripheral.{Peripheral}
-use Rattle.ir_model.specs.Plain.{PlainStruct, PlainGlobal, PlainFunc, PlainFile, PlainFirmware, funcs_of}
+use Rattle.ir_model.specs.Plain.{PlainStruct, PlainGlobal, PlainFunc, PlainFile, PlainFirmware, funcs_of, func_names}
 use Rattle.ir_model.specs.Typing.{Failing, Checks, check, first_failing, structs_checks, periph_checks, globals_checks, func_name_checks, file_checks, label_checks, func_checks, funcs_checks, has_main, checks, fault_of}
 use Rattle.ir_model.proofs.Passing.{left, right}
-use Rattle.ir_text_places.specs.Faulty.{Names, struct_row, periph_row, global_row, file_row, func_names}
+use Rattle.ir_text_places.specs.Faulty.{Names, struct_row, periph_row, global_row, file_row}
 use Rattle.ir_text_places.proofs.FaultPlaces.{either, Keeps, keeps_first, one, HasPlaces, structs_keep, periphs_keep, globals_keep, files_keep, func_keeps}
 
 abbrev labels : List Block → Names

@@ -20,11 +20,7 @@ use Rattle.ir_model.specs.Layout.{CellPlace, known, shape}
 use Rattle.ir_model.specs.Frames.{frame_size}
 use Rattle.ir_model.specs.Rules.{inst_fits, term_fits}
 use Rattle.ir_model.specs.Typing.{Failing, Checks, check, first_failing, is_new, is_known, has_address, has_func, label_known, object_limit, type_checks, row_checks, result_checks, field_checks, struct_checks, structs_checks, periph_checks, cell_checks, init_checks, global_checks, globals_checks, func_name_checks, file_checks, register_checks, outcome_checks, local_checks, label_checks, registers_known, optional_name, inst_names, term_names, code_checks, blocks_checks, frame_limit, func_checks}
-
-passes_right : (xs ys : Checks) → first_failing (xs ++ ys) ≡ None → first_failing ys ≡ None
-passes_right [] ys i = i
-passes_right (None ∷ xs) ys i = passes_right xs ys i
-passes_right (Some z ∷ xs) ys i = cc
+use Rattle.ir_model.proofs.Passing.{append_right}
 
 -- the first of joined lists of checks
 pub either : (xs ys : Checks) (e : Failing) → first_failing (xs ++ ys) ≡ Some e → (first_failing xs ≡ Some e) ⊎ ((first_failing xs ≡ None) × (first_failing ys ≡ Some e))
@@ -237,5 +233,5 @@ module _ (Q : CheckPlace → Type 0) where
       by_part w f e q h bindings frame s r l x =
           elim (either (bindings ++ frame) (blocks_checks w f f.blocks) e x) [
             | inl a ↦ keeps_first (bindings ++ frame) e (each_both Keeps bindings frame s r) a
-            | inr b ↦ keeps_first (blocks_checks w f f.blocks) e (blocks_keep w f f.blocks (h (l (passes_right bindings frame b.0)))) b.1
+            | inr b ↦ keeps_first (blocks_checks w f f.blocks) e (blocks_keep w f f.blocks (h (l (append_right bindings frame b.0)))) b.1
           ]

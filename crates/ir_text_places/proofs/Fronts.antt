@@ -4,10 +4,10 @@ use Rattle.std.specs.List.{sum_by}
 use Rattle.std.proofs.lemmas.List.{take-map}
 use Rattle.ir_model.specs.declared.firmware.Func.{Func}
 use Rattle.ir_model.specs.declared.firmware.StructDecl.{StructDecl}
-use Rattle.ir_model.specs.Plain.{func_of, struct_of, names_of, binding_of}
+use Rattle.ir_model.specs.Plain.{func_of, struct_of, names_of, binding_of, lent_funcs}
 use Rattle.ir_model.specs.Resolve.{labels_of}
 use Rattle.ir_text_places.specs.Faulty.{first_fields, first_labels}
-use Rattle.ir_text_places.specs.Sizes.{block_size, front_size, place_start, code_start, lent_funcs}
+use Rattle.ir_text_places.specs.Sizes.{block_size, front_size, place_start, code_start}
 
 pub sum_front : {A B : Type 0} (size : B → ℕ) (f : A → B) (k : ℕ) (xs : List A) → sum_by size (take k (map f xs)) ≡ sum_by size (map f (take k xs))
 sum_front size f k xs = ap (sum_by size) (take-map f k xs)

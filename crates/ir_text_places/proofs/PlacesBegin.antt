@@ -10,13 +10,13 @@ use Rattle.ir_model.specs.declared.check.CheckPlace.TheVariants as place
 use Rattle.ir_model.specs.declared.firmware.Block.{Block}
 use Rattle.ir_model.specs.declared.firmware.Peripheral.{Peripheral}
 use Rattle.ir_model.specs.declared.token.Keyword.TheVariants as key
-use Rattle.ir_model.specs.Plain.{PlainStruct, PlainGlobal, PlainFunc, PlainFile, PlainFirmware, funcs_of}
+use Rattle.ir_model.specs.Plain.{PlainStruct, PlainGlobal, PlainFunc, PlainFile, PlainFirmware, funcs_of, func_names}
 use Rattle.ir_model.specs.Tokens.{Token, Name, Key, Marked}
 use Rattle.ir_model.specs.Lines.{Line, struct_lines, periph_lines, global_line, global_lines, file_lines, func_line, func_lines, local_lines, reg_lines, block_lines, label_line, inst_lines, term_line, close_line, lines_of}
 use Rattle.ir_model.specs.Texts.{joined, tokens}
 use Rattle.ir_text_places.specs.declared.item.Item.TheVariants as item
 use Rattle.ir_text_places.specs.Items.{count, declaration_lines, tokens_before}
-use Rattle.ir_text_places.specs.Faulty.{is_again, is_of_field, periph_row, global_row, func_names, first_labels, code_at, item_at, item_of}
+use Rattle.ir_text_places.specs.Faulty.{is_again, is_of_field, periph_row, global_row, first_labels, code_at, item_at, item_of}
 use Rattle.ir_text_places.specs.Stands.{tokens_of}
 use Rattle.ir_text_places.specs.Laws.{BeginWith, BeginInCode, BeginAs, line_at, ItemsBegin}
 use Rattle.ir_text_places.specs.Sizes.{front_size, insts_size, block_size, file_size, func_start, place_start, code_start, declarations_size}

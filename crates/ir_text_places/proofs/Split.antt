@@ -4,14 +4,13 @@ use Rattle.std.specs.List.{suffix_len}
 use Rattle.ir_model.specs.declared.token.Pos.{Pos}
 use Rattle.ir_model.specs.Plain.{PlainFirmware}
 use Rattle.ir_model.specs.Tokens.{Token}
-use Rattle.ir_model.specs.Texts.{opens_comment, is_inside_line, IsInsideLine, EndsLine, Leads, here, blank, comment, token, IsText}
+use Rattle.ir_model.specs.Texts.{opens_comment, is_inside_line, IsInsideLine, EndsLine, Leads, here, blank, comment, token, IsText, StartsToken}
 use Rattle.ir_reader.specs.Found.{End, Placed, finds}
-use Rattle.ir_reader.specs.Scan as scan
 use Rattle.ir_reader.specs.Scan.{placed}
 use Rattle.ir_reader.proofs.Scanning.{placed_blank, placed_nil}
 use Rattle.ir_reader.proofs.Whole.{finds_some, token_placed, placed_from}
 use Rattle.ir_text_places.specs.Lefts.{left_at}
-use Rattle.ir_text_places.specs.Stands.{StartsToken, Stands, tokens_of}
+use Rattle.ir_text_places.specs.Stands.{Stands, tokens_of}
 
 -- ---- the walk over a text
 
@@ -42,10 +41,6 @@ pub record Split (k : ℕ) (ts : List Token) (bytes end : List ℕ) : Type 0 whe
   pub begins : StartsToken rest
   pub left : left_at k (placed bytes) ≡ length rest
 
-starts : (bs : List ℕ) → scan.StartsToken bs → StartsToken bs
-starts [] s = tt
-starts (b ∷ bs) s = (s.0, s.1)
-
 pub split : (k : ℕ) (ts : List Token) (bytes end : List ℕ) → Leads ts bytes end → StartsToken end → ((j : ℕ) → left_at j (placed end) ≡ length end) → Split k ts bytes end
 split zero ts bytes end (here b) s e = record { rest = b; before = here b; behind = here b; begins = s; left = e 0 }
 split (suc k) ts bytes end (here b) s e = record { rest = b; before = here b; behind = here b; begins = s; left = e (suc k) }
@@ -57,7 +52,7 @@ split k ts bytes end (comment b inside {bs = c} h i j l) s e =
     record { rest = p.rest; before = comment b inside h i j p.before; behind = p.behind; begins = p.begins; left = ap (left_at k) (comment_placed b inside c h i j) ∙ p.left }
 split zero (u ∷ us) bytes end (token t w {bs = c} a i l) s e =
     let f = finds_some t w c a i in
-    record { rest = w ++ c; before = here (w ++ c); behind = token t w a i l; begins = starts (w ++ c) f.1.starts; left = ap (left_at zero) (token_placed f.0 w c f.1) }
+    record { rest = w ++ c; before = here (w ++ c); behind = token t w a i l; begins = f.1.starts; left = ap (left_at zero) (token_placed f.0 w c f.1) }
 split (suc k) (u ∷ us) bytes end (token t w {bs = c} a i l) s e =
     let f = finds_some t w c a i in
     let p = split k us c end l s e in

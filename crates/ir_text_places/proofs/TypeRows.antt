@@ -1,16 +1,12 @@
 -- The types between brackets, as the code holds them.
-use Rattle.std.proofs.Common.{◌≡◌, ◌<◌, ℕ, suc, ◌+◌, List, [], ◌∷◌, ◌++◌, length, take, get_or, map, ap, ◌∙◌, arith, rules}
+use Rattle.std.proofs.Common.{◌≡◌, ◌<◌, ℕ, suc, ◌+◌, List, [], ◌∷◌, ◌++◌, length, take, get_or, map, ap, ◌∙◌, arith}
 use Rattle.ir_model.specs.declared.types.Ty as code
 use Rattle.ir_model.specs.declared.types.Ty.{Ty}
 use Rattle.ir_model.specs.declared.types.Signature.{Signature}
-use Rattle.ir_model.specs.Types.{Callee, type_of, types_from, boxed_result_of}
-use Rattle.ir_model.proofs.SameTypes.{rows}
+use Rattle.ir_model.specs.Types.{type_of, types_from, boxed_result_of}
+use Rattle.ir_model.proofs.SameTypes.{callee_is}
 use Rattle.base_laws.proofs.Lists.{take_next}
 use Rattle.ir_text_places.specs.Sizes.{type_size, row_size, result_size, closed}
-
--- the type of a function, as the code holds it
-callee_is : (s : Signature) → type_of (code.Callee s) ≡ Callee (types_from (map type_of s.params)) (boxed_result_of s.«result»)
-callee_is s = search (rules, code.the_lemmas, rows)
 
 pub callee_size : (s : Signature) → type_size (type_of (code.Callee s)) ≡ 2 + (closed (row_size (types_from (map type_of s.params))) + result_size (boxed_result_of s.«result»))
 callee_size s = ap type_size (callee_is s)

@@ -6,7 +6,7 @@ use Rattle.ir_model.specs.declared.check.CheckKind.TheVariants.{Twice}
 use Rattle.ir_model.specs.declared.check.CheckPlace.{CheckPlace}
 use Rattle.ir_model.specs.declared.check.CheckPlace.TheVariants as place
 use Rattle.ir_model.specs.declared.firmware.Peripheral.{Peripheral}
-use Rattle.ir_model.specs.Plain.{PlainStruct, PlainGlobal, PlainFunc, PlainFile, PlainFirmware, names_of, funcs_of}
+use Rattle.ir_model.specs.Plain.{PlainStruct, PlainGlobal, PlainFunc, PlainFile, PlainFirmware, names_of, funcs_of, func_names}
 use Rattle.ir_model.specs.Resolve.{labels_of}
 use Rattle.ir_model.specs.Typing.{Failing}
 use Rattle.ir_text_places.specs.declared.item.Item.{Item}
@@ -60,9 +60,6 @@ first_labels (f ∷ fs) = labels_of f
 -- the first struct of a name has a field of that name again
 abbrev pub is_of_field : PlainFirmware → List ℕ → Bool
 is_of_field w n = has_twice (first_fields (drop (number_of (struct_row w) n) w.structs)) n
-
-abbrev pub func_names : List PlainFunc → Names
-func_names fs = map (λ (f : PlainFunc). f.name) fs
 
 -- a place in the code of functions: in the first function of a name its first block of a label
 abbrev pub code_at : List PlainFunc → (func block : List ℕ) → (place : ℕ) → Item

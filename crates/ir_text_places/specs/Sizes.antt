@@ -1,17 +1,15 @@
 -- Beyond the program's claim: only laws, proofs and functions inside the tool cite this file.
 -- How many tokens the parts of a firmware have, as the code adds them up.
-use Rattle.std.specs.Prelude.{ℕ, zero, suc, ◌+◌, ◌*◌, ◌-◌, List, [], ◌∷◌, map, length, take, drop, Bool, true, false, Option, Some, None, nat_lt, if◌then◌else◌, sum_by}
-use Rattle.std.specs.Borrow.{Bor}
+use Rattle.std.specs.Prelude.{ℕ, zero, suc, ◌+◌, ◌*◌, ◌-◌, List, [], ◌∷◌, length, take, drop, Bool, true, false, Option, Some, None, nat_lt, if◌then◌else◌, sum_by}
 use Rattle.ir_model.specs.declared.firmware.Inst.{Inst}
 use Rattle.ir_model.specs.declared.firmware.Inst.TheVariants as inst
 use Rattle.ir_model.specs.declared.firmware.Term.{Term}
 use Rattle.ir_model.specs.declared.firmware.Term.TheVariants as term
 use Rattle.ir_model.specs.declared.firmware.Block.{Block}
-use Rattle.ir_model.specs.declared.firmware.Func.{Func}
 use Rattle.ir_model.specs.declared.firmware.Cell.{Cell}
 use Rattle.ir_model.specs.declared.firmware.Cell.TheVariants.{Word, Function, Address}
 use Rattle.ir_model.specs.Types.{PlainType, U8, U16, U32, Pointer, Array, Named, Callee, PlainTypes, none, more, PlainResult, nothing, gives}
-use Rattle.ir_model.specs.Plain.{PlainBinding, PlainStruct, PlainGlobal, PlainFunc, PlainFile, PlainFirmware, func_of, funcs_of}
+use Rattle.ir_model.specs.Plain.{PlainBinding, PlainStruct, PlainGlobal, PlainFunc, PlainFile, PlainFirmware, funcs_of}
 use Rattle.ir_text_places.specs.declared.item.Item.{Item}
 use Rattle.ir_text_places.specs.declared.item.Item.TheVariants as item
 
@@ -143,7 +141,3 @@ size_before w (item.Global k) = sum_by struct_size w.structs + (4 * length w.per
 size_before w (item.File k) = declarations_size w + sum_by file_size (take k w.files)
 size_before w (item.Func k) = declarations_size w + func_start k w.files
 size_before w (item.Code k b i) = declarations_size w + (func_start k w.files + code_start b i (drop k (funcs_of w)))
-
--- functions that are lent
-abbrev pub lent_funcs : List (Bor Func) → List PlainFunc
-lent_funcs fs = map (λ (f : Bor Func). func_of f.now) fs

@@ -1,15 +1,10 @@
 -- Where a token of a firmware's text stands.
-use Rattle.std.specs.Prelude.{◌≡◌, ℕ, List, [], ◌∷◌, take, drop, false}
+use Rattle.std.specs.Prelude.{ℕ, List, [], take, drop}
 use Rattle.ir_model.specs.declared.token.Pos.{Pos}
 use Rattle.ir_model.specs.Plain.{PlainFirmware}
 use Rattle.ir_model.specs.Tokens.{Token}
 use Rattle.ir_model.specs.Lines.{lines_of}
-use Rattle.ir_model.specs.Texts.{Leads, IsPlace, is_blank, opens_comment, joined, tokens}
-
--- neither a blank nor a comment begins there
-abbrev pub StartsToken : List ℕ → Type 0
-StartsToken [] = Unit {0}
-StartsToken (b ∷ bs) = (is_blank b ≡ false) × (opens_comment b ≡ false)
+use Rattle.ir_model.specs.Texts.{Leads, IsPlace, StartsToken, joined, tokens}
 
 abbrev pub tokens_of : PlainFirmware → List Token
 tokens_of w = tokens (joined (lines_of w))

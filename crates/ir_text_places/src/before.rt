@@ -1,10 +1,9 @@
 //! How many tokens of a firmware's text stand before an item.
 
 ghost use Rattle.std.specs.Prelude.{◌≡◌, ◌+◌, map, take, drop, IfOk, sum_by};
-ghost use Rattle.ir_model.specs.Plain.{func_of, file_of, firmware_of, funcs_of};
+ghost use Rattle.ir_model.specs.Plain.{func_of, file_of, firmware_of, funcs_of, lent_funcs};
 ghost use Rattle.ir_text_places.specs.Items.{tokens_before};
 ghost use Rattle.ir_text_places.specs.Sizes as sizes;
-ghost use Rattle.ir_text_places.specs.Sizes.{lent_funcs};
 
 use crate::declarations::{declarations_size, front, globals_size, periphs_size, structs_size};
 use crate::functions::{blocks_size, file_size, files_size, front_size, funcs_size, insts_size};

@@ -2,11 +2,10 @@
 
 ghost use Rattle.std.specs.Prelude.{◌≡◌, ◌++◌, [], map, flat_map, drop, not, ◌&&◌, OnOk, IfOk};
 ghost use Rattle.base_names.specs.Numbers.{number_of};
-ghost use Rattle.ir_model.specs.Plain.{PlainFile, func_of, file_of, struct_of, firmware_of, funcs_of};
+ghost use Rattle.ir_model.specs.Plain.{PlainFile, func_of, file_of, struct_of, firmware_of, funcs_of, lent_funcs, func_names};
 ghost use Rattle.ir_text_places.specs.Faulty as faulty;
-ghost use Rattle.ir_text_places.specs.Faulty.{item_at, code_at, has_twice, first_fields, first_labels, func_names, struct_row, periph_row, global_row, file_row};
+ghost use Rattle.ir_text_places.specs.Faulty.{item_at, code_at, has_twice, first_fields, first_labels, struct_row, periph_row, global_row, file_row};
 ghost use Rattle.ir_text_places.specs.Rows.{names_in};
-ghost use Rattle.ir_text_places.specs.Sizes.{lent_funcs};
 
 use crate::item::Item;
 use crate::rows::{

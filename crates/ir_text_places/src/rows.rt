@@ -3,11 +3,10 @@
 ghost use Rattle.std.specs.Prelude.{◌≡◌, ◌≤◌, ◌++◌, [], map, length, true, false, OnOk, MatchOption, bytes_eq};
 ghost use Rattle.std.specs.List.{position};
 ghost use Rattle.base_names.specs.Numbers.{has, number_of};
-ghost use Rattle.ir_model.specs.Plain.{PlainStruct, PlainGlobal, PlainFile, PlainFunc, binding_of, struct_of, global_of, file_of, names_of};
+ghost use Rattle.ir_model.specs.Plain.{PlainStruct, PlainGlobal, PlainFile, PlainFunc, binding_of, struct_of, global_of, file_of, names_of, lent_funcs};
 ghost use Rattle.ir_text_places.specs.Faulty as faulty;
 ghost use Rattle.ir_text_places.specs.Faulty.{has_twice, second_of};
 ghost use Rattle.ir_text_places.specs.Rows.{names_in};
-ghost use Rattle.ir_text_places.specs.Sizes.{lent_funcs};
 
 use base_names::Name;
 use ir_model::firmware::{

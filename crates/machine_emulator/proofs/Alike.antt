@@ -11,6 +11,7 @@ use Rattle.machine_protection.specs.declared.region.Access.TheVariants.{Read, Wr
 use Rattle.machine_protection.specs.Regions.{holds, is_enabled, is_of_legal_size, is_in_block, is_taken_out, size_log}
 use Rattle.machine_protection.specs.Registers.{Registers}
 use Rattle.machine_protection.specs.Protection.{is_fetch_place, default_allows, or_this, deciding, decided, while_on, is_on, has_background, permits}
+use Rattle.machine_protection.proofs.Alike.{not_over_four}
 
 -- two addresses of one block lie in one block of any size from 32 bytes on
 one_block : (a b s : ℕ) → 5 ≤ s → a / 32 ≡ b / 32 → a / 2 ^ s ≡ b / 2 ^ s
@@ -18,9 +19,6 @@ one_block a b s le e =
     let split : s ≡ 5 + (s - 5) = omega arith in
     let whole : 2 ^ s ≡ 32 * 2 ^ (s - 5) = ap (λ n. 2 ^ n) split ∙ pow-add 2 5 (s - 5) in
     ap (λ n. a / n) whole ∙ sym (div-div-eq-div-mul a 32 (2 ^ (s - 5))) ∙ ap (λ n. n / 2 ^ (s - 5)) e ∙ div-div-eq-div-mul b 32 (2 ^ (s - 5)) ∙ sym (ap (λ n. b / n) whole)
-
-small : (s : ℕ) → s ≤ 4 → nat_lt 4 s ≡ false
-small s le = grind (arith, nat_tests)
 
 no_part : (s : ℕ) → s ≤ 7 → nat_lt 7 s ≡ false
 no_part s le = grind (arith, nat_tests)
@@ -33,7 +31,7 @@ part_alike g a b e = ⊎_elim large (λ le. rw (no_part (size_log g) le) refl) (
 
 holds_alike : (g : Region) (a b : ℕ) → a / 32 ≡ b / 32 → holds g a ≡ holds g b
 unfolding holds
-holds_alike g a b e = ⊎_elim large (λ le. none (small (size_log g) le)) (cases_lt 4 (size_log g))
+holds_alike g a b e = ⊎_elim large (λ le. none (not_over_four (size_log g) le)) (cases_lt 4 (size_log g))
   where
     block : 4 < size_log g → is_in_block g a ≡ is_in_block g b
     block lt = ap (λ n. nat_eq n (g.rbar / 2 ^ size_log g)) (one_block a b (size_log g) (omega arith) e)

@@ -26,12 +26,13 @@ one_block a b s le e =
     let whole : 2 ^ s ≡ 4 * 2 ^ (s - 2) = ap (λ n. 2 ^ n) split ∙ pow-add 2 2 (s - 2) in
     ap (λ n. a / n) whole ∙ sym (div-div-eq-div-mul a 4 (2 ^ (s - 2))) ∙ ap (λ n. n / 2 ^ (s - 2)) e ∙ div-div-eq-div-mul b 4 (2 ^ (s - 2)) ∙ sym (ap (λ n. b / n) whole)
 
-small : (s : ℕ) → s ≤ 4 → nat_lt 4 s ≡ false
-small s le = grind (arith, nat_tests)
+-- a region of at most 16 bytes is of no legal size
+pub not_over_four : (s : ℕ) → s ≤ 4 → nat_lt 4 s ≡ false
+not_over_four s le = grind (arith, nat_tests)
 
 pub holds_alike : (g : Region) (a b : ℕ) → a / 4 ≡ b / 4 → holds g a ≡ holds g b
 unfolding holds
-holds_alike g a b e = ⊎_elim large (λ le. none (small (size_log g) le)) (cases_lt 4 (size_log g))
+holds_alike g a b e = ⊎_elim large (λ le. none (not_over_four (size_log g) le)) (cases_lt 4 (size_log g))
   where
     part : 4 < size_log g → is_taken_out g a ≡ is_taken_out g b
     part lt = ap (λ n. nat_lt 7 (size_log g) && nat_eq (bit_at (g.rasr / 2 ^ 8 % 2 ^ 8) (n % 8)) 1) (one_block a b (size_log g - 3) (omega arith) e)

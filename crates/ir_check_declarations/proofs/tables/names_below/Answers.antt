@@ -1,8 +1,8 @@
 use Rattle.std.proofs.Common.{◌≡◌, ◌∙◌, ap, map, flat_map, refl, List, [], ◌∷◌, Bor}
 use Rattle.ir_model.specs.declared.firmware.Func.{Func}
 use Rattle.ir_model.specs.declared.firmware.FileDecl.{FileDecl}
-use Rattle.ir_model.specs.Plain.{PlainFunc, PlainGlobal, func_of, global_of}
-use Rattle.ir_check_scopes.specs.Scopes.{lent, lent_funcs, declared_funcs}
+use Rattle.ir_model.specs.Plain.{PlainFunc, PlainGlobal, func_of, global_of, lent_funcs}
+use Rattle.ir_check_scopes.specs.Scopes.{lent, declared_funcs}
 use Rattle.ir_check_scopes.proofs.LentFuncs.{lent_plain}
 use Rattle.ir_check_declarations.proofs.tables.names_below.Goals as goal
 

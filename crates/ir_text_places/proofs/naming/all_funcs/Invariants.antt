@@ -1,7 +1,6 @@
 use Rattle.std.proofs.Common.{◌≡◌, map, take}
 use Rattle.std.specs.Prelude.{flat_map}
-use Rattle.ir_model.specs.Plain.{PlainFile, file_of}
-use Rattle.ir_text_places.specs.Sizes.{lent_funcs}
+use Rattle.ir_model.specs.Plain.{PlainFile, file_of, lent_funcs}
 use Rattle.ir_text_places.proofs.naming.all_funcs.Given as goal
 
 abbrev pub invariant-loop-file : goal.invariant-loop-file

@@ -1,7 +1,6 @@
 use Rattle.std.proofs.Common.{◌∙◌, ap}
-use Rattle.ir_text_places.specs.Faulty.{func_names}
+use Rattle.ir_model.specs.Plain.{lent_funcs, func_names}
 use Rattle.ir_text_places.specs.Rows.{names_in}
-use Rattle.ir_text_places.specs.Sizes.{lent_funcs}
 use Rattle.ir_text_places.proofs.Numbered.{row_is, in_is}
 use Rattle.ir_text_places.proofs.naming.func_number.Goals as goal
 

@@ -1,6 +1,5 @@
 use Rattle.std.proofs.Common.{◌≡◌, ◌++◌, map, take}
-use Rattle.ir_model.specs.Plain.{func_of}
-use Rattle.ir_text_places.specs.Sizes.{lent_funcs}
+use Rattle.ir_model.specs.Plain.{func_of, lent_funcs}
 use Rattle.ir_text_places.proofs.naming.lend_funcs.Given as goal
 
 abbrev pub invariant-loop-func : goal.invariant-loop-func

@@ -1,6 +1,5 @@
 use Rattle.std.proofs.Common.{◌≡◌, ◌++◌, map, take}
-use Rattle.ir_model.specs.Plain.{PlainFunc}
-use Rattle.ir_text_places.specs.Sizes.{lent_funcs}
+use Rattle.ir_model.specs.Plain.{PlainFunc, lent_funcs}
 use Rattle.ir_text_places.specs.Rows.{names_in}
 use Rattle.ir_text_places.proofs.rows.put_funcs.Given as goal
 
