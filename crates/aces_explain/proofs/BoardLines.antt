@@ -6,7 +6,8 @@ use Rattle.std.proofs.lemmas.Bool.Decides.{nat_tests}
 use Rattle.std.proofs.lemmas.List.{map-append}
 use Rattle.std.proofs.lemmas.List.Sums.{fails_before_first}
 use Rattle.std.proofs.lemmas.List.Quantifiers.{position-Some}
-use Rattle.aces_explain.specs.KeyLines.{lines_of, before_first, parts_of}
+use Rattle.machine_devices.specs.Tape.{before_first}
+use Rattle.aces_explain.specs.KeyLines.{lines_of, parts_of}
 
 lines_of-nil : lines_of [] ≡ [] ∷ []
 unfolding lines_of
@@ -55,30 +56,31 @@ more bs k h = let x = position-Some feed bs k 0 h in more_at bs k x.0 x.1 x.2
 
 -- ---- lines as they are found
 
-abbrev seen : List (Bor (List ℕ)) → List (List ℕ)
-seen ls = map (λ (line : Bor (List ℕ)). line.now) ls
+-- what a list of lines by reference has
+abbrev pub seen_lines : List (Bor (List ℕ)) → List (List ℕ)
+seen_lines ls = map (λ (line : Bor (List ℕ)). line.now) ls
 
-pub begun : (text : List ℕ) (ls : List (Bor (List ℕ))) → ls ≡ [] → seen ls ++ lines_of text ≡ lines_of text
+pub begun : (text : List ℕ) (ls : List (Bor (List ℕ))) → ls ≡ [] → seen_lines ls ++ lines_of text ≡ lines_of text
 begun text ls e = rw e refl
 
-pub one_more : (text rest behind : List ℕ) (k : ℕ) (ls more_lines : List (Bor (List ℕ))) (line : Bor (List ℕ)) → seen ls ++ lines_of rest ≡ lines_of text
+pub one_more : (text rest behind : List ℕ) (k : ℕ) (ls more_lines : List (Bor (List ℕ))) (line : Bor (List ℕ)) → seen_lines ls ++ lines_of rest ≡ lines_of text
     → position (λ b. nat_eq b 10) rest ≡ Some k → more_lines ≡ ls ++ line ∷ [] → line.now ≡ take k rest → behind ≡ drop 1 (drop k rest)
-    → seen more_lines ++ lines_of behind ≡ lines_of text
+    → seen_lines more_lines ++ lines_of behind ≡ lines_of text
 one_more text rest behind k ls more_lines line h p m l b =
-    ap (λ xs. seen xs ++ lines_of behind) m
+    ap (λ xs. seen_lines xs ++ lines_of behind) m
     ∙ (ap (λ xs. xs ++ lines_of behind) (map-append (λ (line : Bor (List ℕ)). line.now) ls (line ∷ []))
-    ∙ (append_assoc (seen ls) (line.now ∷ []) (lines_of behind)
-    ∙ (ap (λ xs. seen ls ++ (xs ∷ lines_of behind)) l
-    ∙ (ap (λ xs. seen ls ++ (take k rest ∷ lines_of xs)) b
-    ∙ (ap (λ xs. seen ls ++ xs) (sym (more rest k p)) ∙ h)))))
+    ∙ (append_assoc (seen_lines ls) (line.now ∷ []) (lines_of behind)
+    ∙ (ap (λ xs. seen_lines ls ++ (xs ∷ lines_of behind)) l
+    ∙ (ap (λ xs. seen_lines ls ++ (take k rest ∷ lines_of xs)) b
+    ∙ (ap (λ xs. seen_lines ls ++ xs) (sym (more rest k p)) ∙ h)))))
 
-pub ended : (text rest : List ℕ) (ls more_lines : List (Bor (List ℕ))) (line : Bor (List ℕ)) → seen ls ++ lines_of rest ≡ lines_of text
-    → position (λ b. nat_eq b 10) rest ≡ None → more_lines ≡ ls ++ line ∷ [] → line.now ≡ rest → seen more_lines ≡ lines_of text
+pub ended : (text rest : List ℕ) (ls more_lines : List (Bor (List ℕ))) (line : Bor (List ℕ)) → seen_lines ls ++ lines_of rest ≡ lines_of text
+    → position (λ b. nat_eq b 10) rest ≡ None → more_lines ≡ ls ++ line ∷ [] → line.now ≡ rest → seen_lines more_lines ≡ lines_of text
 ended text rest ls more_lines line h p m l =
-    ap seen m
+    ap seen_lines m
     ∙ (map-append (λ (line : Bor (List ℕ)). line.now) ls (line ∷ [])
-    ∙ (ap (λ xs. seen ls ++ xs ∷ []) l
-    ∙ (ap (λ xs. seen ls ++ xs) (sym (last_at rest (no_feed rest p))) ∙ h)))
+    ∙ (ap (λ xs. seen_lines ls ++ xs ∷ []) l
+    ∙ (ap (λ xs. seen_lines ls ++ xs) (sym (last_at rest (no_feed rest p))) ∙ h)))
 
 -- ---- what stands behind a place
 

@@ -1,5 +1,5 @@
 -- The first number below a bound that passes a test, and the nearest header before a line.
-use Rattle.std.proofs.Common.{◌≡◌, ◌<◌, ◌≤◌, ℕ, zero, suc, ◌+◌, List, [], ◌∷◌, refl, ap, sym, ◌∙◌, subst, Bool, true, false, cond, Option, Some, None, length, take, get_or, reverse, map, slice_get, option_copied, arith}
+use Rattle.std.proofs.Common.{◌≡◌, ◌<◌, ◌≤◌, ℕ, zero, suc, ◌+◌, List, [], ◌∷◌, refl, ap, sym, ◌∙◌, subst, Bool, true, false, cond, Option, Some, None, length, take, get_or, reverse, slice_get, option_copied, arith}
 use Rattle.std.specs.Borrow.{Bor}
 use Rattle.std.specs.Prelude.{find}
 use Rattle.std.specs.List.{position_or_len, range_with_len}
@@ -10,6 +10,7 @@ use Rattle.std.proofs.lemmas.List.FromFn.{length-range_with_len, get_or-range_wi
 use Rattle.std.proofs.lemmas.Option.{slice_get-get_or}
 use Rattle.plan_model.specs.Lists.{numbers_below}
 use Rattle.aces_explain.specs.KeyLines.{key_line, is_key_line, header_over, is_header}
+use Rattle.aces_explain.proofs.BoardLines.{seen_lines}
 
 below : (test : ℕ → Bool) (n i : ℕ) → i < n → get_or (numbers_below n) i 0 ≡ i
 below test n i l = get_or-range_with_len 0 n i 0 l ∙ (omega arith)
@@ -55,39 +56,36 @@ header_next ls k l =
 
 -- ---- the same of lines by reference, as the code has them
 
-abbrev seen : List (Bor (List ℕ)) → List (List ℕ)
-seen ls = map (λ (line : Bor (List ℕ)). line.now) ls
-
-seen_long : (ls : List (Bor (List ℕ))) → length (seen ls) ≡ length ls
+seen_long : (ls : List (Bor (List ℕ))) → length (seen_lines ls) ≡ length ls
 seen_long ls = length-map ls (λ (line : Bor (List ℕ)). line.now)
 
-seen_at : (ls : List (Bor (List ℕ))) (k : ℕ) (d : Bor (List ℕ)) → k < length ls → (get_or ls k d).now ≡ get_or (seen ls) k []
+seen_at : (ls : List (Bor (List ℕ))) (k : ℕ) (d : Bor (List ℕ)) → k < length ls → (get_or ls k d).now ≡ get_or (seen_lines ls) k []
 seen_at ls k d l = sym (get_or-map (λ (line : Bor (List ℕ)). line.now) ls k d [] l)
 
-pub here : (p : List ℕ) (ls : List (Bor (List ℕ))) (k : ℕ) (h : Option (List ℕ)) (d : Bor (List ℕ)) (b : Bool) → k < length ls → h ≡ header_over (seen ls) k
-    → b ≡ is_key_line p h (get_or ls k d).now → is_at p (seen ls) k ≡ b
+pub here : (p : List ℕ) (ls : List (Bor (List ℕ))) (k : ℕ) (h : Option (List ℕ)) (d : Bor (List ℕ)) (b : Bool) → k < length ls → h ≡ header_over (seen_lines ls) k
+    → b ≡ is_key_line p h (get_or ls k d).now → is_at p (seen_lines ls) k ≡ b
 here p ls k h d b l e r =
-    sym (r ∙ (ap (λ (x : Option (List ℕ)). is_key_line p x (get_or ls k d).now) e ∙ ap (is_key_line p (header_over (seen ls) k)) (seen_at ls k d l)))
+    sym (r ∙ (ap (λ (x : Option (List ℕ)). is_key_line p x (get_or ls k d).now) e ∙ ap (is_key_line p (header_over (seen_lines ls) k)) (seen_at ls k d l)))
 
-pub found_seen : (p : List ℕ) (ls : List (Bor (List ℕ))) (k : ℕ) → k < length ls → is_at p (seen ls) k ≡ true → ((i : ℕ) → i < k → is_at p (seen ls) i ≡ false)
-    → Some k ≡ key_line p (seen ls)
-found_seen p ls k l h f = sym (found p (seen ls) k (omega (arith, seen_long ls)) h f)
+pub found_seen : (p : List ℕ) (ls : List (Bor (List ℕ))) (k : ℕ) → k < length ls → is_at p (seen_lines ls) k ≡ true → ((i : ℕ) → i < k → is_at p (seen_lines ls) i ≡ false)
+    → Some k ≡ key_line p (seen_lines ls)
+found_seen p ls k l h f = sym (found p (seen_lines ls) k (omega (arith, seen_long ls)) h f)
 
-pub none_seen : (p : List ℕ) (ls : List (Bor (List ℕ))) (k : ℕ) → length ls ≤ k → ((i : ℕ) → i < k → is_at p (seen ls) i ≡ false) → None ≡ key_line p (seen ls)
-none_seen p ls k l f = sym (not_found p (seen ls) (λ i h. f i (omega (arith, seen_long ls))))
+pub none_seen : (p : List ℕ) (ls : List (Bor (List ℕ))) (k : ℕ) → length ls ≤ k → ((i : ℕ) → i < k → is_at p (seen_lines ls) i ≡ false) → None ≡ key_line p (seen_lines ls)
+none_seen p ls k l f = sym (not_found p (seen_lines ls) (λ i h. f i (omega (arith, seen_long ls))))
 
 pub header_passed : (ls : List (Bor (List ℕ))) (k : ℕ) (d : Bor (List ℕ)) (after : Option (Bor (List ℕ))) → k < length ls → after ≡ Some (get_or ls k d)
-    → is_header (get_or ls k d).now ≡ true → option_copied after ≡ header_over (seen ls) (k + 1)
+    → is_header (get_or ls k d).now ≡ true → option_copied after ≡ header_over (seen_lines ls) (k + 1)
 header_passed ls k d after l e t =
     let line = seen_at ls k d l in
-    let is : is_header (get_or (seen ls) k []) ≡ true = ap is_header (sym line) ∙ t in
+    let is : is_header (get_or (seen_lines ls) k []) ≡ true = ap is_header (sym line) ∙ t in
     ap option_copied e ∙ (ap Some line
-    ∙ sym (header_next (seen ls) k (omega (arith, seen_long ls)) ∙ ap (λ (b : Bool). cond b (Some (get_or (seen ls) k [])) (header_over (seen ls) k)) is))
+    ∙ sym (header_next (seen_lines ls) k (omega (arith, seen_long ls)) ∙ ap (λ (b : Bool). cond b (Some (get_or (seen_lines ls) k [])) (header_over (seen_lines ls) k)) is))
 
 pub header_stays : (ls : List (Bor (List ℕ))) (k : ℕ) (d : Bor (List ℕ)) (before after : Option (Bor (List ℕ))) → k < length ls → after ≡ before
-    → option_copied before ≡ header_over (seen ls) k → is_header (get_or ls k d).now ≡ false → option_copied after ≡ header_over (seen ls) (k + 1)
+    → option_copied before ≡ header_over (seen_lines ls) k → is_header (get_or ls k d).now ≡ false → option_copied after ≡ header_over (seen_lines ls) (k + 1)
 header_stays ls k d before after l e h t =
     let line = seen_at ls k d l in
-    let is : is_header (get_or (seen ls) k []) ≡ false = ap is_header (sym line) ∙ t in
+    let is : is_header (get_or (seen_lines ls) k []) ≡ false = ap is_header (sym line) ∙ t in
     ap option_copied e ∙ (h
-    ∙ sym (header_next (seen ls) k (omega (arith, seen_long ls)) ∙ ap (λ (b : Bool). cond b (Some (get_or (seen ls) k [])) (header_over (seen ls) k)) is))
+    ∙ sym (header_next (seen_lines ls) k (omega (arith, seen_long ls)) ∙ ap (λ (b : Bool). cond b (Some (get_or (seen_lines ls) k [])) (header_over (seen_lines ls) k)) is))

@@ -1,14 +1,10 @@
 -- Where a key stands in the bytes of a board's text: the first line that looks like the key's. The text need not be a document for it.
 use Rattle.std.specs.Prelude.{ℕ, ◌+◌, List, [], ◌∷◌, length, take, drop, get_or, reverse, find, position, Option, Some, None, option_map, Bool, false, ◌&&◌, ◌||◌, if◌then◌else◌, nat_eq, bytes_eq}
 use Rattle.std.specs.List.{prefix_len}
+use Rattle.machine_devices.specs.Tape.{before_first}
 use Rattle.plan_model.specs.Lists.{numbers_below}
 
 -- ---- lines
-
--- a byte before the first of some lines
-abbrev pub before_first : ℕ → List (List ℕ) → List (List ℕ)
-before_first b [] = (b ∷ []) ∷ []
-before_first b (line ∷ lines) = (b ∷ line) ∷ lines
 
 -- the lines of a text without their line feeds; what follows the last one is a line too
 unfoldable pub lines_of : List ℕ → List (List ℕ)

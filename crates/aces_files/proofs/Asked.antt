@@ -1,5 +1,5 @@
 -- What is known by the calls that were made, and which request they serve.
-use Rattle.std.proofs.Common.{◌≡◌, ◌∙◌, ℕ, List, All, ◌∷◌, [], ◌++◌, Bool, Some, inl, inr, ap, sym, subst, append_assoc}
+use Rattle.std.proofs.Common.{◌≡◌, ◌∙◌, ℕ, List, All, ◌∷◌, [], ◌++◌, Bool, Some, inl, inr, refl, ap, sym, subst, append_assoc}
 use Rattle.std.proofs.lemmas.List.Elements.{All-weaker}
 use Rattle.base_outside.specs.Calls.{Call, Size, Read, Create, Append}
 use Rattle.base_outside.specs.Reading.{Reads}
@@ -61,6 +61,10 @@ names_behind earlier calls (Unread name) h = unread_behind earlier calls name.no
 names_behind earlier calls (Unwritten name) h = h
 names_behind earlier calls Unprinted h = h
 names_behind earlier calls NoMemory h = h
+
+-- the first source of a request is named
+pub first_named : (r : Request) (s : Origin) (more : List Origin) → origins r ≡ s ∷ more → IsNamed (origins r) s.name
+first_named r s more takes = subst (λ ss. IsNamed ss s.name) (sym takes) (inl refl)
 
 -- calls that read a source of a request, and that write its target
 pub read_of : (r : Request) (name : List ℕ) → IsNamed (origins r) name → (call : Call) → Reads name call → IsCallOf r call

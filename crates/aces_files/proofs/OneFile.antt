@@ -12,19 +12,16 @@ use Rattle.aces_words.specs.Requests.{Request, Origin, origins}
 use Rattle.aces_files.specs.Answers.{AnswerByFile, too_large, read}
 use Rattle.aces_files.specs.CarriesOut.{CarriesOut, IsKnown, IsKnownLarge}
 use Rattle.aces_files.specs.Effects.{Quiet, world}
-use Rattle.aces_files.specs.Known.{IsNamed, IsMissing, IsCallOf}
+use Rattle.aces_files.specs.Known.{IsMissing, IsCallOf}
 use Rattle.aces_files.specs.Loads.{IsRefusal, IsRead, IsNotRead}
 use Rattle.aces_files.specs.Outcomes.{Outcome, done}
 use Rattle.aces_files.specs.Tellings.{Prints}
-use Rattle.aces_files.proofs.Asked.{reads_of}
+use Rattle.aces_files.proofs.Asked.{first_named, reads_of}
 use Rattle.aces_files.proofs.Ends.{load_failed, refusal_did, refusal_names, refusal_also, did_end}
 
 module _ {F : Type 0} (of : files.Ghosts F) (old new : F) (s : Origin) (r : Request) (takes : origins r ≡ s ∷ []) (A : (bytes : List ℕ) → Outcome → Type 0) where
-  named : IsNamed (origins r) s.name
-  named = subst (λ ss. IsNamed ss s.name) (sym takes) (inl refl)
-
   pub asked : (calls : List Call) → All (Reads s.name) calls → All (IsCallOf r) calls
-  asked calls h = reads_of r s.name named calls h
+  asked calls h = reads_of r s.name (first_named r s [] takes) calls h
 
   -- the file was not read
   pub not_read : (out : SinkState) (e : Failure) → IsNotRead of old new s e → CarriesOut (AnswerByFile s A) of old new r out out (Err e)
@@ -35,7 +32,7 @@ module _ {F : Type 0} (of : files.Ghosts F) (old new : F) (s : Origin) (r : Requ
         h.calls,
         h.are,
         asked h.calls h.reads,
-        load_failed all large r s (world of old out) (world of new out) quiet named
+        load_failed all large r s (world of old out) (world of new out) quiet (first_named r s [] takes)
             (λ t n. subst (λ ss. IsMissing (of.held old) ss s.name) (sym takes) (inl (refl, n))) (λ x. too_large x) e h.cause,
         h.last,
       )

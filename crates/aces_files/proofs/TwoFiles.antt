@@ -15,19 +15,16 @@ use Rattle.aces_files.specs.Known.{Held, IsNamed, IsMissing, IsCallOf}
 use Rattle.aces_files.specs.Loads.{IsRefusal, ReadsEither, AreRead, AreNotRead}
 use Rattle.aces_files.specs.Outcomes.{Outcome, done}
 use Rattle.aces_files.specs.Tellings.{Prints}
-use Rattle.aces_files.proofs.Asked.{reads_of_both}
+use Rattle.aces_files.proofs.Asked.{first_named, reads_of_both}
 use Rattle.aces_files.proofs.Ends.{load_failed, refusal_did, refusal_names, refusal_also, did_end, did_also, did_then, untouched_names}
 
 module _ {F : Type 0} (of : files.Ghosts F) (old new : F) (s t : Origin) (r : Request) (takes : origins r ≡ s ∷ t ∷ [])
     (A : (bytes text : List ℕ) → Outcome → Type 0) where
-  first_named : IsNamed (origins r) s.name
-  first_named = subst (λ ss. IsNamed ss s.name) (sym takes) (inl refl)
-
   second_named : IsNamed (origins r) t.name
   second_named = subst (λ ss. IsNamed ss t.name) (sym takes) (inr (inl refl))
 
   pub asked : (calls : List Call) → All (ReadsEither s.name t.name) calls → All (IsCallOf r) calls
-  asked calls h = reads_of_both r s.name t.name first_named second_named calls h
+  asked calls h = reads_of_both r s.name t.name (first_named r s (t ∷ []) takes) second_named calls h
 
   -- a file was not read
   pub not_read : (out : SinkState) (e : Failure) → AreNotRead of old new s t e → CarriesOut (AnswerByFiles s t A) of old new r out out (Err e)
@@ -39,7 +36,7 @@ module _ {F : Type 0} (of : files.Ghosts F) (old new : F) (s t : Origin) (r : Re
         h.are,
         asked h.calls h.reads,
         elim h.cause [
-          | inl f ↦ load_failed all large r s (world of old out) (world of new out) quiet first_named
+          | inl f ↦ load_failed all large r s (world of old out) (world of new out) quiet (first_named r s (t ∷ []) takes)
               (λ told n. subst (λ ss. IsMissing (of.held old) ss s.name) (sym takes) (inl (refl, n))) (λ x. first_large x) e f
           | inr f ↦ load_failed all large r t (world of old out) (world of new out) quiet second_named
               (λ told n. subst (λ ss. IsMissing (of.held old) ss t.name) (sym takes) (inr ((f.0.0, f.0.1.1 told), inl (refl, n)))) (λ x. second_large f.0.0 f.0.1 x) e f.1

@@ -5,9 +5,10 @@ use Rattle.base_words.specs.Runs.{run, events}
 use Rattle.base_words.proofs.Runs.{run-add, events-add, run_still, events_still}
 use Rattle.aces_selftest.specs.TakesSteps.{TakesSteps}
 
-missing : {E : Type 0} (o : Option E) → o ≢ None → (e : E) × (o ≡ Some e)
-missing None h = absurd (h refl)
-missing (Some e) h = (e, refl)
+-- what is not none has a value
+pub has_value : {E : Type 0} (o : Option E) → o ≢ None → (e : E) × (o ≡ Some e)
+has_value None h = absurd (h refl)
+has_value (Some e) h = (e, refl)
 
 -- so many steps lead where fewer did, and told no more
 pub record Settled {S X : Type 0} (step : S → S) (event : S → Option X) (first : S) (n k : ℕ) : Type 0 where
@@ -33,6 +34,6 @@ module _ {S E X : Type 0} (ending : S → Option E) (step : S → S) (event : S 
   settled limit n k s e takes few at =
       elim (cases_order n k) [
         | inl same ↦ record { less = omega arith; state = ap (λ j. run step j s) (sym same); events = ap (λ j. events step event j s) (sym same) }
-        | inr (inl less) ↦ (let there = missing (ending (run step n s)) (takes.ends (omega arith)) in same_behind n k s there.0 (omega arith) there.1)
+        | inr (inl less) ↦ (let there = has_value (ending (run step n s)) (takes.ends (omega arith)) in same_behind n k s there.0 (omega arith) there.1)
         | inr (inr more) ↦ (let wrong : None ≡ Some e = sym (takes.goes k more) ∙ at in cc)
       ]

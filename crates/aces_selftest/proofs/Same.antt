@@ -31,7 +31,7 @@ use Rattle.ir_output.specs.SourceRuns.{ending_of, end_line}
 use Rattle.machine_output.specs.Runs.{fill}
 use Rattle.aces_printed_runs.specs.PrintedRuns.{begin}
 use Rattle.aces_selftest.specs.TakesSteps.{machine_ending_of}
-use Rattle.aces_selftest.proofs.Lengths.{Settled, settled}
+use Rattle.aces_selftest.proofs.Lengths.{has_value, Settled, settled}
 use Rattle.aces_selftest.specs.TestBoard.{test_board}
 use Rattle.aces_selftest.specs.Lines.{AreAlike, verdict_status}
 use Rattle.aces_selftest.specs.Answers.{source_limit, IsTestImage, groups_of, words_of, TakeSteps, source_ran, image_ran, too_many, lacks_room, tested}
@@ -49,10 +49,6 @@ source_silent : (p : Program) (c : List ℕ) (s : SourceState) (e : SourceEnd) �
 unfolding source_turn
 source_silent p c (Running frames m) e h = cc
 source_silent p c (Ended d) e h = refl
-
-there : {E : Type 0} (o : Option E) → o ≢ None → (e : E) × (o ≡ Some e)
-there None h = absurd (h refl)
-there (Some e) h = (e, refl)
 
 -- ---- ends that are alike
 
@@ -83,7 +79,7 @@ module _ (seed size : ℕ) (i : Image) (by : IsTestImage seed size i) (starts : 
 
   source_settled : Settled (source_step p c) (source_event p c) (start p qs) n well.steps
   source_settled =
-      let e = there (ending_of (source_after p c qs well.steps)) well.ended in
+      let e = has_value (ending_of (source_after p c qs well.steps)) well.ended in
       settled ending_of (source_step p c) (source_event p c) (source_stays p c) (source_silent p c) source_limit n well.steps (start p qs) e.0 take.source well.few e.1
 
   ended : ending_of (source_after p c qs n) ≢ None

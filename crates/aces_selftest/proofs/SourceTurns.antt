@@ -2,7 +2,7 @@
 use Rattle.std.proofs.Common.{◌≡◌, ℕ, suc, ◌+◌, ◌<◌, List, [], ◌∷◌, ◌++◌, Some, None, refl, ap, sym, ◌∙◌, subst, arith}
 use Rattle.base_events.specs.declared.event.Event.{Event}
 use Rattle.ir_model.specs.Resolved.{Program}
-use Rattle.ir_model.specs.State.{SourceState, Running, Ended, SourceTurn}
+use Rattle.ir_model.specs.State.{SourceState, SourceTurn}
 use Rattle.ir_model.specs.Step.{source_turn, source_step, source_event}
 use Rattle.ir_run.specs.declared.outcome.SourceEnd as code
 use Rattle.ir_run.specs.declared.outcome.SourceStep.{SourceStep}
@@ -11,13 +11,10 @@ use Rattle.ir_run.specs.Acts as acts
 use Rattle.ir_run.specs.Runs.{RunState, IsRunning, IsStep}
 use Rattle.ir_output.specs.SourceRuns.{ending_of}
 use Rattle.ir_output.specs.Ends.{seen_end}
+use Rattle.ir_output.proofs.Sources.{goes_on}
 use Rattle.aces_selftest.specs.declared.sources.SourceCount.{SourceCount}
 use Rattle.aces_selftest.specs.Counts.{IsSourceCount}
 use Rattle.aces_selftest.proofs.Going.{Going, Ending, not_begun, quiet, tells, ended}
-
-goes_on : (s : SourceState) → IsRunning s → ending_of s ≡ None
-goes_on (Running frames m) h = refl
-goes_on (Ended e) h = absurd h
 
 -- a run that has made so many steps from a state on, has not ended, and has told this
 pub record Runs (p : Program) (c : List ℕ) (s : SourceState) (n : ℕ) (r : RunState) (told : List Event) : Type 0 where

@@ -3,10 +3,11 @@
 use Rattle.std.specs.Prelude.{◌≡◌, ℕ, [], ◌∷◌, Some, None, false}
 use Rattle.plan_model.specs.declared.needs.SiteNeed.{SiteNeed}
 use Rattle.plan_model.specs.declared.needs.Needs.{Needs}
-use Rattle.plan_model.specs.declared.groups.Groups.{Groups}
 use Rattle.plan_model.specs.declared.graph.Final.{Final}
 use Rattle.plan_model.specs.declared.plan.Plan.{Plan}
 use Rattle.code_model.specs.Planned.{code_groups, code_places, sizes_of, planned_entry}
+use Rattle.example_plan.specs.ControlLoop.{groups_by_file, groups_optimized, groups_by_periph}
+use Rattle.example_plan.specs.LentLocal.{three_files, alone}
 use Rattle.example_code.specs.Sensor.{sensor, by_file, clamp_moved, by_peripherals, at_files}
 use Rattle.example_code.specs.Lent.{lending}
 
@@ -20,26 +21,11 @@ sensor_needs = record { funcs = []; sites = call 0 1 0 1 ∷ call 0 1 1 2 ∷ ca
 abbrev pub lending_needs : Needs
 lending_needs = record { funcs = []; sites = call 0 0 1 1 ∷ call 1 0 0 2 ∷ []; lendable = (0, 0) ∷ []; closed = false }
 
-abbrev pub files : Groups
-files = record { of = 0 ∷ 1 ∷ 2 ∷ 3 ∷ 3 ∷ []; count = 4 }
-
-abbrev pub moved : Groups
-moved = record { of = 0 ∷ 1 ∷ 2 ∷ 2 ∷ 3 ∷ []; count = 4 }
-
-abbrev pub peripherals : Groups
-peripherals = record { of = 0 ∷ 1 ∷ 2 ∷ 0 ∷ 2 ∷ []; count = 3 }
-
-abbrev pub three_files : Groups
-three_files = record { of = 0 ∷ 1 ∷ 2 ∷ []; count = 3 }
-
-abbrev pub alone : Groups
-alone = record { of = 0 ∷ 0 ∷ 0 ∷ []; count = 1 }
-
 -- turns is written by compartment 0, and gain by none
 abbrev pub graph : Final
 graph =
     record {
-      groups = files;
+      groups = groups_by_file;
       regions = record { globals = 1 ∷ []; writers = 0 ∷ []; readers = [] } ∷ [];
       unwritten = 0 ∷ [];
       covers =
@@ -63,9 +49,9 @@ plan =
     }
 
 pub record ComputesPlanned : Type 0 where
-  pub by_files : (code_groups sensor sensor_needs files).sites ≡ by_file.sites
-  pub by_moved : (code_groups sensor sensor_needs moved).sites ≡ clamp_moved.sites
-  pub by_periphs : (code_groups sensor sensor_needs peripherals).sites ≡ by_peripherals.sites
+  pub by_files : (code_groups sensor sensor_needs groups_by_file).sites ≡ by_file.sites
+  pub by_moved : (code_groups sensor sensor_needs groups_optimized).sites ≡ clamp_moved.sites
+  pub by_periphs : (code_groups sensor sensor_needs groups_by_periph).sites ≡ by_peripherals.sites
   -- tables: 4,096 and 32 bytes, 4 compartments of 48, 4 sites of 12 with a target of 8 each, 2 blocks of 12, and 2 words
   pub sizes : sizes_of sensor sensor_needs graph 4 ≡ record { code = 92 ∷ 36 ∷ 100 ∷ 124 ∷ []; tables = 4432 }
   pub places : code_places sensor sensor_needs graph plan ≡ at_files

@@ -1,12 +1,12 @@
 -- Beyond the program's claim: only laws, proofs and functions inside the tool cite this file.
 -- The tables of a firmware of three compartments in which `main` lends a local, by its needs, its graph and its plan.
-use Rattle.std.specs.Prelude.{◌≡◌, [], ◌∷◌, false, None}
+use Rattle.std.specs.Prelude.{◌≡◌, [], ◌∷◌, None}
 use Rattle.plan_model.specs.declared.graph.Final.{Final}
 use Rattle.plan_model.specs.declared.plan.Plan.{Plan}
-use Rattle.plan_model.specs.declared.plan.Board.{Board}
-use Rattle.plan_model.specs.declared.plan.Lowest.TheVariants.{Largest}
+use Rattle.example_plan.specs.Written.{board}
+use Rattle.example_plan.specs.LentLocal.{three_files}
 use Rattle.example_code.specs.Lent.{lending}
-use Rattle.example_code.specs.Planned.{lending_needs, three_files}
+use Rattle.example_code.specs.Planned.{lending_needs}
 use Rattle.example_monitor.specs.LentImage as model
 use Rattle.image_model.specs.LinkedTables.{tables_of}
 
@@ -30,21 +30,6 @@ plan =
       monitor = record { base = 0x20000800; size = 1024 };
       regions = [];
       unwritten = None;
-    }
-
--- flash of 256 KiB, RAM of 64 KiB, eight regions
-abbrev pub board : Board
-board =
-    record {
-      flash_base = 0x08000000;
-      flash_size = 0x40000;
-      ram_base = 0x20000000;
-      ram_size = 0x10000;
-      stack = 2048;
-      lowest = Largest;
-      regions = 8;
-      closed = false;
-      denied = [];
     }
 
 abbrev pub ComputesLent : Type 0

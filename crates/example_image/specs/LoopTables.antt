@@ -2,10 +2,10 @@
 -- The words of the tables of a control loop in four files: one global that its first compartment writes, and one that none writes.
 use Rattle.std.specs.Prelude.{◌≡◌, ℕ, List, [], ◌∷◌}
 use Rattle.monitor_model.specs.Area.{area}
+use Rattle.example_plan.specs.Written.{board}
 use Rattle.example_code.specs.Sensor.{sensor}
 use Rattle.example_code.specs.Planned.{sensor_needs, graph, plan}
 use Rattle.image_model.specs.LinkedTables.{tables_of}
-use Rattle.example_image.specs.LentTables.{board}
 
 -- counts and places; four compartments; four sites, of which those of `control` are the last two; a target each; two blocks that
 -- start-up fills; the first values of turns and gain

@@ -97,16 +97,18 @@ pub record HasNeeds : Type 0 where
 
 -- ---- what the needs give
 
-abbrev pub three : Groups
-three = record { of = 0 ∷ 1 ∷ 2 ∷ []; count = 3 }
+-- each function is in the compartment of its file
+abbrev pub three_files : Groups
+three_files = record { of = 0 ∷ 1 ∷ 2 ∷ []; count = 3 }
 
+-- all functions are in one compartment
 abbrev pub alone : Groups
 alone = record { of = 0 ∷ 0 ∷ 0 ∷ []; count = 1 }
 
 abbrev pub graph : (reads : List ℕ) → Graph
 graph rs =
     record {
-      groups = three;
+      groups = three_files;
       regions = [];
       unwritten = [];
       covers = (cover 0x40010000 1024 ∷ []) ∷ [] ∷ [] ∷ [];
@@ -116,15 +118,15 @@ graph rs =
 
 pub record ComputesLoans : Type 0 where
   -- only the last function's compartment may write the local; on a closed board that of `main` has it in its read mask too
-  pub first : initial_graph program (needs false) three ≡ graph (0 ∷ 0 ∷ 0 ∷ [])
-  pub closed : initial_graph program (needs true) three ≡ graph (1 ∷ 0 ∷ 1 ∷ [])
-  pub final : IsFinal program (needs true) three 4 (as_final (graph (1 ∷ 0 ∷ 1 ∷ [])))
+  pub first : initial_graph program (needs false) three_files ≡ graph (0 ∷ 0 ∷ 0 ∷ [])
+  pub closed : initial_graph program (needs true) three_files ≡ graph (1 ∷ 0 ∷ 1 ∷ [])
+  pub final : IsFinal program (needs true) three_files 4 (as_final (graph (1 ∷ 0 ∷ 1 ∷ [])))
   pub writer_writes : may_write program (needs false) (as_final (graph (0 ∷ 0 ∷ 0 ∷ []))) 2 (Local 0 0) ≡ true
   pub main_does_not : may_write program (needs false) (as_final (graph (0 ∷ 0 ∷ 0 ∷ []))) 0 (Local 0 0) ≡ false
   pub main_reads : may_read program (needs true) (as_final (graph (1 ∷ 0 ∷ 1 ∷ []))) 0 (Local 0 0) ≡ true
-  pub numbers : lend_numbers_in program (needs false) three 0 ≡ Some 0 ∷ []
-  pub count : lend_count (needs false) three 0 ≡ 1
-  pub crossings : site_numbers_in (needs false) three 1 ≡ Some 1 ∷ []
+  pub numbers : lend_numbers_in program (needs false) three_files 0 ≡ Some 0 ∷ []
+  pub count : lend_count (needs false) three_files 0 ≡ 1
+  pub crossings : site_numbers_in (needs false) three_files 1 ≡ Some 1 ∷ []
   pub mask : lend_mask (as_final (graph (0 ∷ 0 ∷ 0 ∷ []))) 2 ≡ 1
   pub tables : table_bytes program (needs false) (as_final (graph (0 ∷ 0 ∷ 0 ∷ []))) 4 ≡ 4316
   -- in one compartment nothing is lent, and no call crosses

@@ -19,6 +19,7 @@ use Rattle.ir_run.specs.Runs.{RunState}
 use Rattle.machine_lines.specs.Lines.{name_of}
 use Rattle.ir_output.specs.SourceRuns.{ending_of, end_of, event_lines, source_run, source_end, source_event_lines}
 
+-- a run has no end before its first step
 pub goes_at_first : (p : Program) (queues : List (List ℕ)) → ending_of (start p queues) ≡ None
 unfolding start
 goes_at_first p queues = refl

@@ -23,7 +23,8 @@ ended_silent : (p : Program) (c : List ℕ) (e : SourceEnd) → source_event p c
 unfolding source_turn
 ended_silent p c e = refl
 
-goes_on : (s : SourceState) → IsRunning s → ending_of s ≡ None
+-- a state that runs has no end
+pub goes_on : (s : SourceState) → IsRunning s → ending_of s ≡ None
 goes_on (Running frames m) h = refl
 goes_on (Ended e) h = absurd h
 

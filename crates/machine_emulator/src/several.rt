@@ -64,7 +64,7 @@ fn list_registers(count: u8, register: u8, bits: u8, registers: &mut ArrayVec<u8
 }
 
 /// The registers of a list of bits, the lowest first.
-fn listed(list: u8) -> ArrayVec<u8, 8>
+fn registers_of(list: u8) -> ArrayVec<u8, 8>
     ensures registers { result.items ≡ instructions.listed 8 0 list }
     ensures few { array_vec_len result ≤ 8 }
 {
@@ -117,7 +117,7 @@ fn listed_values(core: &CoreRegisters, list: u8) -> Words
     ensures few { array_vec_len result ≤ 8 }
     ensures length { array_vec_len result ≡ length (instructions.listed 8 0 list) }
 {
-    let registers = listed(list);
+    let registers = registers_of(list);
     let mut values = ArrayVec::new();
     append_values(core, registers.as_slice(), &mut values);
     values
@@ -273,7 +273,7 @@ impl Parts {
         ensures { left self.new result
             ≡ does (instructions.push_or_pop 1 0 p list next self.old.core) self.old }
     {
-        let registers = listed(list);
+        let registers = registers_of(list);
         let words = self.load_words(self.core.sp, registers.len() as u8 + p)?;
         match popped(self.core, p, next, registers.as_slice(), words.as_slice()) {
             Some(core) => {
@@ -304,7 +304,7 @@ impl Parts {
         ensures { left self.new result ≡ does
             (instructions.load_multiple base (instructions.listed 8 0 list) next self.old.core) self.old }
     {
-        let registers = listed(list);
+        let registers = registers_of(list);
         let address = self.core.low_register(base);
         let words = self.load_words(address, registers.len() as u8)?;
         self.core.take(base, address.wrapping_add(4 * registers.len() as u32), next);
