@@ -1,6 +1,7 @@
 -- The cases of calls: across compartments, and through a register.
 use Rattle.std.proofs.Common.{◌≡◌, ℕ, suc, ◌+◌, ◌*◌, ◌<◌, ◌≤◌, true, false, Option, Some, None, is_some, List, [], ◌∷◌, length, map, get_or, refl, sym, ap, ◌∙◌, subst, arith, inl, inr, ⊎_elim}
 use Rattle.std.specs.Prelude.{option_to_list}
+use Rattle.base_laws.specs.Lists.{EachBelow}
 use Rattle.base_words.specs.Bytes.{read}
 use Rattle.machine_model.specs.State.{State}
 use Rattle.machine_model.specs.RunningCode.{Context}
@@ -17,7 +18,6 @@ use Rattle.code_model.specs.Places.{entry_address}
 use Rattle.code_model.specs.Sizes.{call_size, icall_size}
 use Rattle.code_model.specs.Templates.{inst_items}
 use Rattle.monitor_model.specs.Block.{MonitorBlock}
-use Rattle.code_effects.specs.Calls.{AllBelow}
 use Rattle.refine_model.specs.Refines.{HasFault}
 use Rattle.refine.specs.Owned.{Owns}
 use Rattle.refine.proofs.Callees.{icalls, crosses, icrosses}
@@ -43,7 +43,7 @@ module _ (k : Build) (Inv : MonitorBlock → Context → List ℕ → Type 0) (s
     abbrev Entered : (h : ℕ) (args : List ℕ) → Type 0
     Entered h args = Serves k Inv places (wheres (fr ∷ rest)) t (Running (new_frame h args ∷ fr ∷ rest) (record m { made = suc m.made })) []
 
-    arguments_below : (ts : PlainTypes) (args : List ℕ) → ((j : ℕ) → j < length args → Has (func k fr.func) (get_or args j 0) (in_row ts j)) → AllBelow (length (func k fr.func).regs) args
+    arguments_below : (ts : PlainTypes) (args : List ℕ) → ((j : ℕ) → j < length args → Has (func k fr.func) (get_or args j 0) (in_row ts j)) → EachBelow (length (func k fr.func).regs) args
     arguments_below ts args each = all_below (func k fr.func) ts args 0 (λ j l. let z : j ≡ 0 + j = omega arith in subst (λ (n : ℕ). Has (func k fr.func) (get_or args j 0) (in_row ts n)) z (each j l))
 
     abbrev LiesHere : (h : ℕ) → Type 0
