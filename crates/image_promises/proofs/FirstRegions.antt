@@ -17,7 +17,7 @@ use Rattle.plan_model.specs.InitialGraph.{Users, users_of, has_users, same_users
 use Rattle.plan_policies.proofs.Distinct.{any_distinct, any_seen}
 use Rattle.base_laws.proofs.Lists.{each_at}
 use Rattle.image_promises.proofs.Lists.{any_index, passing_among, among_passing, each_passing, each_map, below_all}
-use Rattle.image_promises.proofs.Joins.{EachRegion, SomeRegion, AreApart}
+use Rattle.image_promises.proofs.Joins.{EachRegion, SomeRegion, ShareNoGlobal}
 use Rattle.base_laws.proofs.Lists.{any_kept as any_filtered}
 use Rattle.plan_model.proofs.Numbers.{one_passes}
 use Rattle.plan_model.proofs.SameUsers.{same_through}
@@ -164,7 +164,7 @@ module _ (p : Program) (n : Needs) (g : Groups) where
       let wrong : false ≡ true = sym differ ∙ agree in
       cc
 
-  pub first_apart : AreApart first
+  pub first_apart : ShareNoGlobal first
   first_apart r s x l m h k =
       let i = is_of r x l h in
       let j = is_of s x m k in
