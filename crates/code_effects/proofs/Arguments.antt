@@ -1,5 +1,6 @@
 -- Words of the frame into the registers from r0 on.
 use Rattle.std.proofs.Common.{◌≡◌, ℕ, zero, suc, ◌+◌, ◌*◌, ◌<◌, ◌≤◌, List, [], ◌∷◌, length, get_or, set, length-set, get_or-set_same, get_or-set_other, refl, sym, ap, ◌∙◌, arith}
+use Rattle.base_laws.specs.Lists.{EachBelow}
 use Rattle.base_words.specs.declared.conditions.Flags.{Flags}
 use Rattle.base_words.specs.Bytes.{read}
 use Rattle.machine_devices.specs.declared.image.Image.{Image}
@@ -13,7 +14,7 @@ use Rattle.machine_model.proofs.Transfers.{ldr_sp}
 use Rattle.code_model.specs.Calls.{args_code}
 use Rattle.code_effects.specs.Points.{Point, AreAsKnown, known}
 use Rattle.code_effects.specs.Frames.{home}
-use Rattle.code_effects.specs.Calls.{AllBelow, homes}
+use Rattle.code_effects.specs.Calls.{homes}
 use Rattle.code_effects.proofs.Joined.{ends_at}
 use Rattle.code_effects.proofs.Registers.{holds_known}
 
@@ -25,7 +26,7 @@ module _ (j : PermissionTest) (i : Image) where
     pub gives : (m : ℕ) → m < length as_ → get_or after (k + m) 0 ≡ read 4 (o + 4 * get_or as_ m 0) ram
     pub keeps : (m : ℕ) → m < k → get_or after m 0 ≡ get_or low m 0
 
-  pub args : (x : Context) (low : List ℕ) (k o n sp lr pc : ℕ) (f : Flags) (as_ : List ℕ) (ram : List ℕ) (queues : List (List ℕ)) → Room j i x.protection sp o n → length low ≡ 8 → k + length as_ ≤ 8 → AllBelow n as_ →
+  pub args : (x : Context) (low : List ℕ) (k o n sp lr pc : ℕ) (f : Flags) (as_ : List ℕ) (ram : List ℕ) (queues : List (List ℕ)) → Room j i x.protection sp o n → length low ≡ 8 → k + length as_ ≤ 8 → EachBelow n as_ →
       CodeAt j i x.protection pc (args_code k as_) → Args x low k o sp lr pc f as_ ram queues
   args x low k o n sp lr pc f [] ram queues r h few b code = record {
     after = low;

@@ -1,6 +1,7 @@
 -- The code of calls.
 use Rattle.std.specs.Prelude.{ℤ, is_some}
 use Rattle.std.proofs.Common.{◌≡◌, ℕ, suc, ◌+◌, ◌*◌, ◌%◌, ◌^◌, ◌<◌, ◌≤◌, List, [], ◌∷◌, length, get_or, set, get_or-set_same, Option, Some, None, true, false, refl, sym, ap, ◌∙◌, subst, arith}
+use Rattle.base_laws.specs.Lists.{EachBelow}
 use Rattle.base_words.specs.Arithmetic.{moved}
 use Rattle.machine_thumb.specs.declared.table.Instr.TheVariants.{BranchLink, BranchExchange}
 use Rattle.machine_thumb_asm.specs.declared.item.Item.TheVariants.{Half}
@@ -26,7 +27,7 @@ use Rattle.code_model.specs.Sizes.{save_size, call_size, icall_size, inst_size}
 use Rattle.code_effects.specs.Points.{Point, known, with_r12, Leads}
 use Rattle.code_effects.specs.Items.{ItemsAt}
 use Rattle.code_effects.specs.Frames.{HasFrame, home, HasInst}
-use Rattle.code_effects.specs.Calls.{AllBelow, IsBelow, homes, kept_in, keep_steps, HasCrossing, CallEffects, CrossingEffects, ReturnedEffects}
+use Rattle.code_effects.specs.Calls.{IsBelow, homes, kept_in, keep_steps, HasCrossing, CallEffects, CrossingEffects, ReturnedEffects}
 use Rattle.code_effects.proofs.Distances.{goes_to}
 use Rattle.code_effects.proofs.Items.{total-plain, code_first}
 use Rattle.code_effects.proofs.Moves.{save_by}
@@ -36,7 +37,7 @@ use Rattle.code_effects.proofs.Registers.{holds_nothing}
 
 module _ (j : PermissionTest) (i : Image) (p : Point) (o n : ℕ) where
   -- BL behind the arguments
-  call_by : (to : ℕ) (offset : ℤ) (as_ : List ℕ) → HasFrame j i p o n → AllBelow n as_ → length as_ ≤ 4 → moved (p.pc + code_size (args_code 0 as_) + 4) offset ≡ to →
+  call_by : (to : ℕ) (offset : ℤ) (as_ : List ℕ) → HasFrame j i p o n → EachBelow n as_ → length as_ ≤ 4 → moved (p.pc + code_size (args_code 0 as_) + 4) offset ≡ to →
       CodeAt j i p.context.protection p.pc (call_code as_ offset) →
       Leads j i (length as_ + 1) p (record p { registers = known (homes o p as_); lr = p.pc + call_size false as_ + 1; pc = to }) []
   call_by to offset as_ room below few goes code = record {
@@ -50,7 +51,7 @@ module _ (j : PermissionTest) (i : Image) (p : Point) (o n : ℕ) where
   }
 
   -- LDR r0 and MOV r12, r0 before the arguments, and BLX behind them
-  icall_by : (h callee : ℕ) (as_ : List ℕ) → HasFrame j i p o n → h < n → AllBelow n as_ → length as_ ≤ 4 → length p.context.high ≡ 5 → home o p h ≡ callee + 1 → callee % 2 ≡ 0 →
+  icall_by : (h callee : ℕ) (as_ : List ℕ) → HasFrame j i p o n → h < n → EachBelow n as_ → length as_ ≤ 4 → length p.context.high ≡ 5 → home o p h ≡ callee + 1 → callee % 2 ≡ 0 →
       CodeAt j i p.context.protection p.pc (icall_code h as_) →
       Leads j i (length as_ + 3) p (record p { context = with_r12 p.context (home o p h); registers = known (homes o p as_); lr = p.pc + icall_size false as_ + 1; pc = callee }) []
   icall_by h callee as_ room lh below few five is even code = leads_by j i (length as_ + 3) p _ [] (λ a b c rest f l.
@@ -69,7 +70,7 @@ module _ (j : PermissionTest) (i : Image) (p : Point) (o n : ℕ) where
       (onward j i r.runs (next_step (blx_r12 j i x r.after p.sp p.lr (p.pc + 2 + 2 + code_size (args_code 0 as_)) f p.ram p.queues callee r12 even cs.1.0) (stay j i)))))))
 
   -- MOVW and MOVT of r12 before the arguments
-  cross_by : (entry : ℕ) (as_ : List ℕ) → HasFrame j i p o n → AllBelow n as_ → length as_ ≤ 4 → length p.context.high ≡ 5 → entry + 1 < 2 ^ 32 → CodeAt j i p.context.protection p.pc (cross_code entry as_) →
+  cross_by : (entry : ℕ) (as_ : List ℕ) → HasFrame j i p o n → EachBelow n as_ → length as_ ≤ 4 → length p.context.high ≡ 5 → entry + 1 < 2 ^ 32 → CodeAt j i p.context.protection p.pc (cross_code entry as_) →
       Leads j i (length as_ + 2) p (record p { context = with_r12 p.context (entry + 1); registers = known (homes o p as_); pc = p.pc + (8 + 2 * length as_) }) []
   cross_by entry as_ room below few five fits code = leads_by j i (length as_ + 2) p _ [] (λ a b c rest f l.
       let x : Context = with_r12 p.context (entry + 1) in
@@ -83,7 +84,7 @@ module _ (j : PermissionTest) (i : Image) (p : Point) (o n : ℕ) where
       (onward j i (word_into_r12 j i p.context (a ∷ b ∷ c ∷ rest) p.sp p.lr p.pc f p.ram p.queues (entry + 1) (omega arith) fits code.0 code.1.0) r.runs)))
 
   -- LDR r0 and MOV r12, r0 before the arguments
-  icross_by : (h : ℕ) (as_ : List ℕ) → HasFrame j i p o n → h < n → AllBelow n as_ → length as_ ≤ 4 → CodeAt j i p.context.protection p.pc (icross_code h as_) →
+  icross_by : (h : ℕ) (as_ : List ℕ) → HasFrame j i p o n → h < n → EachBelow n as_ → length as_ ≤ 4 → CodeAt j i p.context.protection p.pc (icross_code h as_) →
       Leads j i (length as_ + 2) p (record p { context = with_r12 p.context (home o p h); registers = known (homes o p as_); pc = p.pc + (4 + 2 * length as_) }) []
   icross_by h as_ room lh below few code = leads_by j i (length as_ + 2) p _ [] (λ a b c rest f l.
       let v : ℕ = home o p h in
@@ -129,7 +130,7 @@ icross_code_size h as_ = omega (arith, code_size-append (args_code 0 as_) (super
 -- ---- the templates
 
 module _ (j : PermissionTest) (i : Image) (g : NumberedFunc) (q : Places) (labels : List (Option ℕ)) (p : Point) (o n : ℕ) where
-  the_call : (to : Option ℕ) (f : ℕ) (args : List ℕ) → HasFrame j i p o n → AllBelow n args → length args ≤ 4 → p.pc < 2 ^ 30 → entry_address q f < 2 ^ 30 → HasInst j i g q labels p p.pc None (Call to f args) →
+  the_call : (to : Option ℕ) (f : ℕ) (args : List ℕ) → HasFrame j i p o n → EachBelow n args → length args ≤ 4 → p.pc < 2 ^ 30 → entry_address q f < 2 ^ 30 → HasInst j i g q labels p p.pc None (Call to f args) →
       Leads j i (length args + 1) p (record p { registers = known (homes o p args); lr = p.pc + call_size false args + 1; pc = entry_address q f }) []
   unfolding inst_items
   the_call to f as_ room below few low there code =
@@ -141,14 +142,14 @@ module _ (j : PermissionTest) (i : Image) (g : NumberedFunc) (q : Places) (label
       call_by j i p o n (entry_address q f) d as_ room below few (ap (λ (a : ℕ). moved a d) (sym e) ∙ goes_to from (entry_address q f) (omega arith) (omega arith))
       (code_first j i p.context.protection labels (call_code as_ d) (plain (save_code to)) p.pc code).0
 
-  the_icall : (to : Option ℕ) (h callee : ℕ) (args : List ℕ) → HasFrame j i p o n → h < n → AllBelow n args → length args ≤ 4 → length p.context.high ≡ 5 → home o p h ≡ callee + 1 → callee % 2 ≡ 0 → HasInst j i g q labels p p.pc None (ICall to h args) →
+  the_icall : (to : Option ℕ) (h callee : ℕ) (args : List ℕ) → HasFrame j i p o n → h < n → EachBelow n args → length args ≤ 4 → length p.context.high ≡ 5 → home o p h ≡ callee + 1 → callee % 2 ≡ 0 → HasInst j i g q labels p p.pc None (ICall to h args) →
       Leads j i (length args + 3) p (record p { context = with_r12 p.context (callee + 1); registers = known (homes o p args); lr = p.pc + icall_size false args + 1; pc = callee }) []
   unfolding inst_items
   the_icall to h callee as_ room lh below few five is even code =
       subst (λ (v : ℕ). Leads j i (length as_ + 3) p (record p { context = with_r12 p.context v; registers = known (homes o p as_); lr = p.pc + icall_size false as_ + 1; pc = callee }) []) is
       (icall_by j i p o n h callee as_ room lh below few five is even (code_first j i p.context.protection labels (icall_code h as_) (plain (save_code to)) p.pc code).0)
 
-  the_cross : (s : ℕ) (to : Option ℕ) (f : ℕ) (args : List ℕ) → HasFrame j i p o n → AllBelow n args → length args ≤ 4 → length p.context.high ≡ 5 → entry_address q f + 1 < 2 ^ 32 → HasInst j i g q labels p p.pc (Some s) (Call to f args) →
+  the_cross : (s : ℕ) (to : Option ℕ) (f : ℕ) (args : List ℕ) → HasFrame j i p o n → EachBelow n args → length args ≤ 4 → length p.context.high ≡ 5 → entry_address q f + 1 < 2 ^ 32 → HasInst j i g q labels p p.pc (Some s) (Call to f args) →
       Leads j i (length args + 2) p (record p { context = with_r12 p.context (entry_address q f + 1); registers = known (homes o p args); pc = p.pc + (8 + 2 * length args) }) []
   unfolding inst_items
   the_cross s to f as_ room below few five fits code =
@@ -166,7 +167,7 @@ module _ (j : PermissionTest) (i : Image) (g : NumberedFunc) (q : Places) (label
       let u : at + code_size (cross_code e as_) ≡ at + (8 + 2 * length as_) + 2 = omega arith in
       (subst (λ (a : ℕ). Stands j i p.context.protection a (supervisor_call 0)) y d.1.0, subst (λ (a : ℕ). HoldsHalf i a s) u c.1.0)
 
-  the_icross : (s : ℕ) (to : Option ℕ) (h : ℕ) (args : List ℕ) → HasFrame j i p o n → h < n → AllBelow n args → length args ≤ 4 → HasInst j i g q labels p p.pc (Some s) (ICall to h args) →
+  the_icross : (s : ℕ) (to : Option ℕ) (h : ℕ) (args : List ℕ) → HasFrame j i p o n → h < n → EachBelow n args → length args ≤ 4 → HasInst j i g q labels p p.pc (Some s) (ICall to h args) →
       Leads j i (length args + 2) p (record p { context = with_r12 p.context (home o p h); registers = known (homes o p args); pc = p.pc + (4 + 2 * length args) }) []
   unfolding inst_items
   the_icross s to h as_ room lh below few code =

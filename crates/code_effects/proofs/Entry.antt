@@ -109,7 +109,7 @@ sub_size true w = refl
 sub_size false w = refl
 
 -- the code of the frame, by which form of SUB it has
-frame_by : (b : Bool) (n w : ℕ) → List Instr
+unfoldable pub frame_by : (b : Bool) (n w : ℕ) → List Instr
 frame_by b n w = (PushPop 0 1 0 0 ∷ sub_by b w) ++ (stores_code (λ k. k) n 0 ++ (byte_into 0 0 ∷ stores_code (λ k. 0) (w - n) n))
 
 frame_size : (n w : ℕ) → code_size (frame_code n w) ≡ 2 + adjust_size w + (2 * n + (2 + 2 * (w - n)))

@@ -17,5 +17,5 @@ mod Branches
 mod Sources
 mod Arguments
 mod Calls
-mod Entry
+pub mod Entry
 mod Returns

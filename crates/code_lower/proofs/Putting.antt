@@ -3,11 +3,12 @@ use Rattle.std.proofs.Common.{◌≡◌, ℕ, ◌+◌, ◌<◌, ◌^◌, List, [
 use Rattle.std.proofs.lemmas.List.{drop_more}
 use Rattle.machine_thumb.specs.declared.table.Instr.{Instr}
 use Rattle.machine_thumb.specs.Table.{InTable, encode, width_of}
+use Rattle.machine_thumb.specs.Bytes.{EachInTable}
 use Rattle.machine_thumb_asm.specs.declared.item.Item.{Item}
 use Rattle.machine_thumb_asm.specs.declared.item.Item.TheVariants.{Plain}
 use Rattle.machine_thumb_asm.specs.Assembly.{Assembly, here, total}
 use Rattle.code_model.specs.Words.{plain}
-use Rattle.code_model.specs.Emitted.{with_more, HasRoom, AreInTable}
+use Rattle.code_model.specs.Emitted.{with_more, HasRoom}
 use Rattle.machine_thumb_asm.proofs.Items.{total-append}
 
 pub here_more : (a : Assembly) (xs : List Item) → here (with_more a xs) ≡ here a + total xs
@@ -45,7 +46,7 @@ plain-append (x ∷ xs) ys = ap (λ is. Plain x ∷ is) (plain-append xs ys)
 
 -- an instruction among others is put, and those behind it are left
 module _ (xs : List Instr) (i : ℕ) (d : Instr) (l : i < length xs) where
-  pub next_in_table : AreInTable (drop i xs) → InTable (get_or xs i d) × AreInTable (drop (i + 1) xs)
+  pub next_in_table : EachInTable (drop i xs) → InTable (get_or xs i d) × EachInTable (drop (i + 1) xs)
   next_in_table h = rw (drop_more xs i d l) at h
 
   pub next_room : (a : Assembly) → HasRoom a (plain (drop i xs)) → here a + width_of (encode (get_or xs i d)) < 2 ^ 31

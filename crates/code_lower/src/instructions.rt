@@ -2,9 +2,10 @@
 
 ghost use Rattle.std.specs.Prelude.{◌≡◌, ◌<◌, OnOk};
 ghost use Rattle.machine_thumb.specs.Table.{InTable};
+ghost use Rattle.machine_thumb.specs.Bytes.{EachInTable};
 ghost use Rattle.code_model.specs.Words as word;
 ghost use Rattle.code_model.specs.Words.{plain};
-ghost use Rattle.code_model.specs.Emitted.{with_more, HasRoom, AreInTable};
+ghost use Rattle.code_model.specs.Emitted.{with_more, HasRoom};
 
 use machine_thumb::Instr;
 use machine_thumb_asm::Asm;
@@ -77,7 +78,7 @@ pub(crate) fn byte_into(d: u8, n: u8) -> Instr
 pub(crate) fn word_into(d: u8, n: u32) -> [Instr; 2]
     requires { d < 13 }
     ensures code { result ≡ word.word_into d n }
-    ensures in_table { AreInTable result }
+    ensures in_table { EachInTable result }
 {
     let low = Instr::MoveWide {
         d,
@@ -104,7 +105,7 @@ pub(crate) fn supervisor_call(n: u8) -> Instr
 
 /// Puts instructions one behind the other.
 pub(crate) fn put(asm: &mut Asm, code: &[Instr]) -> Result<(), AllocError>
-    requires in_table { AreInTable code.now }
+    requires in_table { EachInTable code.now }
     requires room { HasRoom asm.old (plain code.now) }
     ensures { OnOk result (asm.new ≡ with_more asm.old (plain code.now)) }
 {

@@ -4,8 +4,9 @@ ghost use Rattle.std.specs.Prelude.{◌≡◌, ◌≢◌, ◌<◌, [], ◌∷◌
 ghost use Rattle.code_model.specs.Words.{plain};
 ghost use Rattle.code_model.specs.Numbers as number;
 ghost use Rattle.code_model.specs.Numbers.{const_code, move_code, bin_code};
-ghost use Rattle.code_model.specs.Emitted.{with_more, HasRoom, AreInTable};
+ghost use Rattle.code_model.specs.Emitted.{with_more, HasRoom};
 ghost use Rattle.machine_thumb.specs.Table.{InTable};
+ghost use Rattle.machine_thumb.specs.Bytes.{EachInTable};
 ghost use Rattle.machine_thumb.specs.declared.table.Instr.TheVariants.{Divide, DataRegister, AddSubRegister};
 ghost use Rattle.ir_model.specs.declared.firmware.BinOp.TheVariants as ops;
 
@@ -64,7 +65,7 @@ fn operation(op: BinOp) -> Instr
 fn remainder(op: u8) -> [Instr; 3]
     requires { op < 2 }
     ensures code { result ≡ Divide op 0 2 1 ∷ DataRegister 13 1 2 ∷ AddSubRegister 1 2 0 0 ∷ [] }
-    ensures in_table { AreInTable result }
+    ensures in_table { EachInTable result }
 {
     [
         Instr::Divide {

@@ -1,10 +1,8 @@
 -- Beyond the program's claim: only laws, proofs and functions inside the tool cite this file.
 -- What an assembler holds once more code was put, and what is asked for before.
-use Rattle.std.specs.Prelude.{◌≡◌, ℕ, ◌+◌, ◌%◌, ◌<◌, ◌≤◌, ◌^◌, List, [], ◌∷◌, ◌++◌, length, Some}
+use Rattle.std.specs.Prelude.{◌≡◌, ℕ, ◌+◌, ◌%◌, ◌<◌, ◌≤◌, ◌^◌, List, ◌++◌, length, Some}
 use Rattle.std.proofs.Math.ListN.{set}
 use Rattle.std.specs.List.{All}
-use Rattle.machine_thumb.specs.declared.table.Instr.{Instr}
-use Rattle.machine_thumb.specs.Table.{InTable}
 use Rattle.machine_thumb_asm.specs.declared.item.Item.{Item}
 use Rattle.machine_thumb_asm.specs.Assembly.{Assembly, here, total}
 use Rattle.ir_model.specs.Resolved.{NumberedFunc}
@@ -19,10 +17,6 @@ with_more a xs = record a { items = a.items ++ xs }
 -- addresses stay below 2^31 where these are put
 pub record HasRoom (a : Assembly) (xs : List Item) : Type 0 where
   pub below : here a + total xs < 2 ^ 31
-
-abbrev pub AreInTable : List Instr → Type 0
-AreInTable [] = Unit {0}
-AreInTable (x ∷ xs) = InTable x × AreInTable xs
 
 -- an entry is even, and less than 2^20 bytes from each address from this one on to before that one
 pub record IsNear (from to entry : ℕ) : Type 0 where

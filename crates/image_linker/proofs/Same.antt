@@ -15,7 +15,7 @@ use Rattle.plan_model.specs.Lists.{numbers_below}
 use Rattle.plan_model.specs.Crossing.{crossing_sites, target_count}
 use Rattle.plan_model.specs.Lending.{lent}
 use Rattle.plan_model.specs.Boards.{slots_of}
-use Rattle.plan_model.specs.Placement.{no_spot, compartment_spot}
+use Rattle.plan_model.specs.Placement.{no_spot, compartment_spot, flash_used}
 use Rattle.plan_model.specs.TableSize.{unless_empty, filled_blocks, table_bytes}
 use Rattle.code_model.specs.declared.places.Places.{Places}
 use Rattle.code_model.specs.FrameShape.{local_starts}
@@ -29,7 +29,7 @@ use Rattle.monitor_model.specs.declared.tables.Tables.{Tables}
 use Rattle.image_model.specs.FirstWords.{first_words}
 use Rattle.image_model.specs.LinkedTables as defined
 use Rattle.image_model.specs.LinkedTables.{Filled}
-use Rattle.image_model.specs.LinkedImage.{flash_size, erased, with_tables, with_code, flash_of}
+use Rattle.image_model.specs.LinkedImage.{erased, with_tables, with_code, flash_of}
 use Rattle.image_entries.specs.declared.making.Making.{Making}
 use Rattle.image_entries.specs.declared.numbers.Numbers.{Numbers}
 use Rattle.image_entries.specs.Grouped.{AreNumbers, groups_in}
@@ -158,8 +158,8 @@ module _ (m : Making) (n : Needs) (f : Final) (cs : m.compartments.now ≡ f.gro
       λ c. get_or_mapped (λ (s : Spot). s.base) l.code c no_spot in
       let one : (mem : List ℕ) (c : ℕ) → with_code_of m base mem c ≡ with_code p n f l base mem c =
       λ mem c. ap (λ a. write_all 1 (a - base) (bytes_in m c) mem) (spot c) ∙ ap (λ bs. write_all 1 ((compartment_spot l c).base - base) bs mem) (both (λ gs at. compartment_bytes p gs at c)) in
-      ap (λ t. fold (with_code_of m base) (with_tables base t (erased (flash_size l))) ns) (tables_same b)
-      ∙ fold_same (with_code_of m base) (with_code p n f l base) one (with_tables base (defined.tables_of p n f l b) (erased (flash_size l))) ns
+      ap (λ t. fold (with_code_of m base) (with_tables base t (erased (flash_used l))) ns) (tables_same b)
+      ∙ fold_same (with_code_of m base) (with_code p n f l base) one (with_tables base (defined.tables_of p n f l b) (erased (flash_used l))) ns
 
 -- ---- from what the code found
 

@@ -4,10 +4,10 @@ ghost use Rattle.std.specs.Prelude.{◌≡◌, ◌-◌, ◌++◌, IfOk, IfSome, 
 ghost use Rattle.std.specs.List.{fold, flat_map};
 ghost use Rattle.base_words.specs.Bytes.{write_all};
 ghost use Rattle.plan_model.specs.Lists.{numbers_below};
+ghost use Rattle.plan_model.specs.Placement.{flash_used};
 ghost use Rattle.monitor_model.specs.Layout as layout;
 ghost use Rattle.monitor_model.specs.Area as areas;
 ghost use Rattle.monitor_program.specs.Page as pages;
-ghost use Rattle.image_model.specs.LinkedImage as images;
 ghost use Rattle.image_entries.specs.Making.{IsReady};
 ghost use Rattle.image_linker.specs.Placing.{with_code_of, flash_with};
 
@@ -209,7 +209,7 @@ fn put_codes(
 
 /// The bytes of all blocks of flash; none where they take more than 32 bits.
 fn flash_size(plan: &Plan) -> Option<u32>
-    ensures { IfSome result (λ n. n ≡ images.flash_size plan.now) }
+    ensures { IfSome result (λ n. n ≡ flash_used plan.now) }
 {
     let mut total = plan.tables.size;
     for spot in plan.code.as_slice() {

@@ -1,5 +1,5 @@
 -- The image of a firmware by its needs, its graph of compartments, its plan and the board.
-use Rattle.std.specs.Prelude.{ℕ, ◌+◌, ◌-◌, List, replicate, sum_by}
+use Rattle.std.specs.Prelude.{ℕ, ◌-◌, List, replicate}
 use Rattle.std.specs.List.{fold}
 use Rattle.base_words.specs.Bytes.{write_all}
 use Rattle.machine_devices.specs.declared.image.Image.{Image}
@@ -7,21 +7,16 @@ use Rattle.machine_devices.specs.declared.image.Window.{Window}
 use Rattle.ir_model.specs.Resolved.{Program}
 use Rattle.plan_model.specs.declared.needs.Needs.{Needs}
 use Rattle.plan_model.specs.declared.graph.Final.{Final}
-use Rattle.plan_model.specs.declared.plan.Spot.{Spot}
 use Rattle.plan_model.specs.declared.plan.Plan.{Plan}
 use Rattle.plan_model.specs.declared.plan.Board.{Board}
 use Rattle.plan_model.specs.Lists.{numbers_below}
-use Rattle.plan_model.specs.Placement.{compartment_spot}
+use Rattle.plan_model.specs.Placement.{compartment_spot, flash_used}
 use Rattle.code_model.specs.Planned.{planned_code}
 use Rattle.monitor_model.specs.declared.tables.Tables.{Tables}
 use Rattle.monitor_model.specs.Layout.{head_at}
 use Rattle.monitor_model.specs.Area.{area}
 use Rattle.monitor_program.specs.Page.{page}
 use Rattle.image_model.specs.LinkedTables.{tables_of}
-
--- the bytes of all blocks of flash
-abbrev pub flash_size : Plan → ℕ
-flash_size l = l.tables.size + sum_by (λ (s : Spot). s.size) l.code
 
 -- erased flash reads as ones
 abbrev pub erased : (size : ℕ) → List ℕ
@@ -38,7 +33,7 @@ module _ (p : Program) (n : Needs) (f : Final) (l : Plan) where
 
   abbrev pub flash_of : Board → List ℕ
   flash_of b =
-      fold (with_code b.flash_base) (with_tables b.flash_base (tables_of p n f l b) (erased (flash_size l))) (numbers_below f.groups.count)
+      fold (with_code b.flash_base) (with_tables b.flash_base (tables_of p n f l b) (erased (flash_used l))) (numbers_below f.groups.count)
 
   unfoldable pub linked : List Window → Board → Image
   linked windows b =

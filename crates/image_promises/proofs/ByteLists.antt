@@ -1,5 +1,6 @@
 -- Lists of small numbers: the bytes of words and of instructions are bytes.
 use Rattle.std.proofs.Common.{ℕ, zero, suc, ◌^◌, ◌<◌, List, [], ◌∷◌, ◌++◌, get_or, replicate, arith}
+use Rattle.base_laws.specs.Lists.{EachBelow}
 use Rattle.machine_thumb.specs.declared.table.Code.{Code}
 use Rattle.machine_thumb.specs.declared.table.Code.TheVariants.{Half, Pair}
 use Rattle.machine_thumb.specs.declared.table.Instr.{Instr}
@@ -7,11 +8,6 @@ use Rattle.machine_thumb.specs.Table.{encode}
 use Rattle.machine_thumb.specs.Bytes.{bytes_of_half, bytes_of_code, code_bytes, EachInTable}
 use Rattle.machine_thumb.specs.Laws.{IsSelfDelimiting, ShowsItsLength}
 use Rattle.monitor_program.specs.Page.{bytes_of_words}
-
--- each number of a list is below a limit
-abbrev pub EachBelow : (limit : ℕ) → List ℕ → Type 0
-EachBelow n [] = Unit {0}
-EachBelow n (x ∷ xs) = (x < n) × EachBelow n xs
 
 pub below-append : (n : ℕ) (xs ys : List ℕ) → EachBelow n xs → EachBelow n ys → EachBelow n (xs ++ ys)
 below-append n [] ys a b = b

@@ -2,6 +2,7 @@
 use Rattle.std.proofs.Common.{◌≡◌, ℕ, ◌+◌, ◌/◌, ◌%◌, ◌^◌, ◌<◌, true, List, [], ◌∷◌, ◌++◌, Option, None, sym, ◌∙◌, subst, arith}
 use Rattle.std.proofs.lemmas.Bool.Decides.{nat_tests}
 use Rattle.std.proofs.lemmas.Int.{ints}
+use Rattle.base_laws.specs.Lists.{EachBelow}
 use Rattle.machine_thumb.specs.declared.table.Instr.{Instr}
 use Rattle.machine_thumb.specs.Table.{InTable, IsOffset, encode}
 use Rattle.machine_thumb.specs.Bytes.{bytes_of_half, bytes_of_code, EachInTable}
@@ -16,7 +17,7 @@ use Rattle.machine_model.specs.Code.{size}
 use Rattle.machine_model.proofs.CodeParts.{width-encode}
 use Rattle.code_model.specs.Words.{plain}
 use Rattle.code_effects.specs.Items.{InstructionsInTable}
-use Rattle.image_promises.proofs.ByteLists.{EachBelow, below-append, half_below, encoded_below}
+use Rattle.image_promises.proofs.ByteLists.{below-append, half_below, encoded_below}
 use Rattle.machine_thumb_asm.proofs.Items.{branch_even}
 use Rattle.machine_thumb_asm.proofs.Reaching.{near_first, size_even}
 

@@ -14,7 +14,7 @@ use Rattle.plan_model.specs.Blocks.{block}
 use Rattle.plan_model.specs.TableSize.{table_bytes}
 use Rattle.plan_model.specs.FlashPlacement.{flash_blocks, code_blocks, tables_block, flash_needed}
 use Rattle.plan_model.specs.RamBlocks.{ForStack, ForMonitor}
-use Rattle.plan_model.specs.Placement.{compartment_spot}
+use Rattle.plan_model.specs.Placement.{compartment_spot, flash_used}
 use Rattle.plan_layout_laws.specs.FlashLaws.{FlashIsLaid, IsFlashLaid, IsIn, IsAligned}
 use Rattle.plan_layout_laws.specs.RamLaws.{RamIsApart}
 use Rattle.plan_layout_laws.specs.RamPlaces.{RamIsThere, RamIsInside}
@@ -22,7 +22,7 @@ use Rattle.code_model.specs.Planned.{planned_code}
 use Rattle.monitor_model.specs.Layout.{head_at}
 use Rattle.monitor_model.specs.Area.{area}
 use Rattle.monitor_program.specs.Page.{page}
-use Rattle.image_model.specs.LinkedImage.{flash_size, erased, with_tables, linked}
+use Rattle.image_model.specs.LinkedImage.{erased, with_tables, linked}
 use Rattle.image_model.specs.LinkedTables.{tables_of}
 use Rattle.image_promises.specs.Planned.{planned_image}
 use Rattle.plan.specs.PlannedFirmwares.{planned_sizes, plan}
@@ -61,11 +61,11 @@ module _ (law : PlanLaws) (planned : PlannedPremises) where
   unfolding linked
   length_is =
       let t = tables_of p n f l b in
-      let e = erased (flash_size l) in
+      let e = erased (flash_used l) in
       length-puts (λ c. (compartment_spot l c).base - b.flash_base) (planned_code p n f l) 0 f.groups.count (with_tables b.flash_base t e)
       ∙ (length-write_all 4 (head_at t - b.flash_base) (area t) _
       ∙ (length-write_all 1 (t.base - b.flash_base) (page t) e
-      ∙ (length-replicate (flash_size l) 0xFF ∙ size_is p f s b)))
+      ∙ (length-replicate (flash_used l) 0xFF ∙ size_is p f s b)))
 
   pub needed_most : flash_needed s ≤ 0x100000
   needed_most = let h = ok.fits.flash in let m = ok.board.flash_size.most in omega (arith, h, m)

@@ -15,7 +15,7 @@ use Rattle.plan_model.specs.Placement.{region_with}
 use Rattle.plan_graph.proofs.UsersHave.{has_union}
 use Rattle.image_promises.proofs.FinalGraphs.{FinalGraph}
 use Rattle.image_promises.proofs.Kept.{kept_final}
-use Rattle.image_promises.proofs.Joins.{EachRegion, SomeRegion, AreApart, StaysOfBoth, StaysOfOne, each_all, some_all, apart_all}
+use Rattle.image_promises.proofs.Joins.{EachRegion, SomeRegion, ShareNoGlobal, StaysOfBoth, StaysOfOne, each_all, some_all, apart_all}
 use Rattle.image_promises.proofs.Lists.{passing_among}
 use Rattle.image_promises.proofs.FirstRegions.{first_some, first_apart, first_filled, first_below, first_writers, first_readers, free_are, are_free}
 use Rattle.std.proofs.lemmas.Bool.{or_cases as either}
@@ -87,9 +87,9 @@ module _ (graph : FinalGraph) where
   some_final Q s e = subst (SomeRegion Q) (sym regions_are) (some_all Q s p slots (initial_graph p n f.groups) final.last final.reached e)
 
   -- no global is in two regions
-  pub apart : AreApart f.regions
+  pub apart : ShareNoGlobal f.regions
   unfolding initial_graph
-  apart = subst AreApart (sym regions_are) (apart_all p slots (initial_graph p n f.groups) final.last final.reached (first_apart p n f.groups))
+  apart = subst ShareNoGlobal (sym regions_are) (apart_all p slots (initial_graph p n f.groups) final.last final.reached (first_apart p n f.groups))
 
   -- each region has a global
   pub filled : EachRegion (λ q. (x : ℕ) × (has q.globals x ≡ true)) f.regions

@@ -14,10 +14,11 @@ use Rattle.plan_model.specs.declared.graph.DataRegion.{DataRegion}
 use Rattle.plan_model.specs.Lists.{has, numbers_below, same_numbers, distinct}
 use Rattle.plan_model.specs.Regions.{region_at, no_region}
 use Rattle.plan_model.specs.InitialGraph.{Users, users_of, has_users, same_users, kinds_of_users, region_for, data_regions, unwritten}
+use Rattle.plan_graph.specs.UserLists.{no_users}
 use Rattle.plan_policies.proofs.Distinct.{any_distinct, any_seen}
 use Rattle.base_laws.proofs.Lists.{each_at}
 use Rattle.image_promises.proofs.Lists.{any_index, passing_among, among_passing, each_passing, each_map, below_all}
-use Rattle.image_promises.proofs.Joins.{EachRegion, SomeRegion, AreApart}
+use Rattle.image_promises.proofs.Joins.{EachRegion, SomeRegion, ShareNoGlobal}
 use Rattle.base_laws.proofs.Lists.{any_kept as any_filtered}
 use Rattle.plan_model.proofs.Numbers.{one_passes}
 use Rattle.plan_model.proofs.SameUsers.{same_through}
@@ -71,10 +72,6 @@ agree_users u v e f =
     both (same_numbers u.writers v.writers) (same_numbers u.readers v.readers)
     (ap (λ ns. same_numbers u.writers ns) (sym e) ∙ nat_list_eq_equiv.refl u.writers) (ap (λ ns. same_numbers u.readers ns) (sym f) ∙ nat_list_eq_equiv.refl u.readers)
 
--- of a kind that is not there
-abbrev nobody : Users
-nobody = record { writers = []; readers = [] }
-
 -- ---- the first regions
 
 module _ (p : Program) (n : Needs) (g : Groups) where
@@ -88,7 +85,7 @@ module _ (p : Program) (n : Needs) (g : Groups) where
   kinds = kinds_of_users p n g
 
   abbrev kind_at : ℕ → Users
-  kind_at r = get_or kinds r nobody
+  kind_at r = get_or kinds r no_users
 
   abbrev first : List DataRegion
   first = data_regions p n g
@@ -118,10 +115,10 @@ module _ (p : Program) (n : Needs) (g : Groups) where
   as_many = length-map kinds (region_for p n g)
 
   region_is : (r : ℕ) → r < length first → region_at first r ≡ region_for p n g (kind_at r)
-  region_is r l = let size = as_many in get_or-map (region_for p n g) kinds r nobody no_region (omega (arith, size, l))
+  region_is r l = let size = as_many in get_or-map (region_for p n g) kinds r no_users no_region (omega (arith, size, l))
 
   kind_is : (r : ℕ) → r < length first → IsKind (kind_at r)
-  kind_is r l = let size = as_many in each_at IsKind kinds nobody r each_kind (omega (arith, size, l))
+  kind_is r l = let size = as_many in each_at IsKind kinds no_users r each_kind (omega (arith, size, l))
 
   -- a global is in the region of its users
   record IsOf (r x : ℕ) : Type 0 where
@@ -149,7 +146,7 @@ module _ (p : Program) (n : Needs) (g : Groups) where
       ∙ (any_filtered same has_users (map users (numbers_below count))
       ∙ (sym (any_seen users (λ u. has_users u && same u) (numbers_below count))
       ∙ one_passes (λ y. has_users (users y) && same (users y)) x count l (both (has_users (users x)) (same (users x)) t (agree_users (users x) (users x) refl refl)))) in
-      let k = any_index same nobody kinds among in
+      let k = any_index same no_users kinds among in
       let size = as_many in
       let low = k.1 in
       let agree = users_agree (kind_at k.0) (users x) k.2 in
@@ -159,12 +156,12 @@ module _ (p : Program) (n : Needs) (g : Groups) where
   one_region : (r s x : ℕ) → r < length first → s < length first → IsOf r x → IsOf s x → r < s → ⊥
   one_region r s x l m i j lt =
       let size = as_many in
-      let differ = differ_at same_users nobody kinds (distinct_differ same_users (filter has_users (map users (numbers_below count)))) r s lt (omega (arith, size, m)) in
+      let differ = differ_at same_users no_users kinds (distinct_differ same_users (filter has_users (map users (numbers_below count)))) r s lt (omega (arith, size, m)) in
       let agree = agree_users (kind_at r) (kind_at s) (sym i.writers ∙ j.writers) (sym i.readers ∙ j.readers) in
       let wrong : false ≡ true = sym differ ∙ agree in
       cc
 
-  pub first_apart : AreApart first
+  pub first_apart : ShareNoGlobal first
   first_apart r s x l m h k =
       let i = is_of r x l h in
       let j = is_of s x m k in

@@ -11,10 +11,9 @@ use Rattle.plan_model.specs.Lists.{numbers_below}
 use Rattle.plan_model.specs.Choices.{greatest}
 use Rattle.plan_model.specs.Blocks.{block}
 use Rattle.plan_model.specs.FlashPlacement.{flash_blocks, code_blocks, tables_block, flash_spot, code_spot, flash_needed}
-use Rattle.plan_model.specs.Placement.{plan_of, compartment_spot, no_spot}
+use Rattle.plan_model.specs.Placement.{plan_of, compartment_spot, no_spot, flash_used}
 use Rattle.ir_model.specs.Resolved.{Program}
 use Rattle.plan_layout.proofs.Before.{before_fits}
-use Rattle.image_model.specs.LinkedImage.{flash_size}
 use Rattle.base_laws.proofs.Lists.{mapped_twice, sum_first as sum_cons}
 
 -- ---- sums
@@ -37,7 +36,7 @@ one_of_sum (x ∷ xs) (suc k) = let h = one_of_sum xs k in let e = sum_cons x xs
 -- ---- blocks
 
 module _ (p : Program) (f : Final) (s : Sizes) (b : Board) where
-  pub size_is : flash_size (plan_of p f s b) ≡ flash_needed s
+  pub size_is : flash_used (plan_of p f s b) ≡ flash_needed s
   unfolding plan_of flash_blocks
   size_is =
       let spot : ℕ → Spot = code_spot b.flash_base s in

@@ -176,8 +176,8 @@ abbrev pub SomeRegion : (DataRegion → Type 0) → List DataRegion → Type 0
 SomeRegion Q rs = (r : ℕ) × (r < length rs) × Q (region_at rs r)
 
 -- no global is in two of them
-abbrev pub AreApart : List DataRegion → Type 0
-AreApart rs = (r s x : ℕ) → r < length rs → s < length rs → has (region_at rs r).globals x ≡ true → has (region_at rs s).globals x ≡ true → r ≡ s
+abbrev pub ShareNoGlobal : List DataRegion → Type 0
+ShareNoGlobal rs = (r s x : ℕ) → r < length rs → s < length rs → has (region_at rs r).globals x ≡ true → has (region_at rs s).globals x ≡ true → r ≡ s
 
 -- what holds of both holds of the joined one; or what holds of one of them
 abbrev pub StaysOfBoth : (DataRegion → Type 0) → Type 0
@@ -216,7 +216,7 @@ module _ (rs : List DataRegion) (q : Pair) (rising : IsRising (length rs) q) whe
   joint_has : (x : ℕ) → has (both rs q rising).globals x ≡ true → (has (region_at rs q.first).globals x ≡ true) ⊎ (has (region_at rs q.second).globals x ≡ true)
   joint_has x h = or_cases (has (region_at rs q.first).globals x) (has (region_at rs q.second).globals x) (sym (has_union (region_at rs q.first).globals (region_at rs q.second).globals x) ∙ h)
 
-  apart_joined : AreApart rs → AreApart (with_joined_region rs q)
+  apart_joined : ShareNoGlobal rs → ShareNoGlobal (with_joined_region rs q)
   apart_joined a k m x l h e f = ⊎_elim left (λ o. ⊎_elim (right o) (both_stay o) (from rs q rising m h)) (from rs q rising k l)
     where
       -- the joined one and one that stays
@@ -263,10 +263,10 @@ pub some_all : (Q : DataRegion → Type 0) → StaysOfOne Q → (p : Program) (s
 some_all Q s p slots g h stays x = x
 some_all Q s p slots g k (joins {h = h} e m) x = some_all Q s p slots h k m (some_next Q s p slots g h e x)
 
-apart_next : (p : Program) (slots : ℕ) (g h : Graph) → next p slots g ≡ Some h → AreApart g.regions → AreApart h.regions
+apart_next : (p : Program) (slots : ℕ) (g h : Graph) → next p slots g ≡ Some h → ShareNoGlobal g.regions → ShareNoGlobal h.regions
 apart_next p slots g h e =
-    by_next p (λ a b. AreApart a.regions → AreApart b.regions) (λ a q c f. apart_joined a.regions q (pair_rising p a.regions c q f)) (λ a q c f x. x) slots g h e
+    by_next p (λ a b. ShareNoGlobal a.regions → ShareNoGlobal b.regions) (λ a q c f. apart_joined a.regions q (pair_rising p a.regions c q f)) (λ a q c f x. x) slots g h e
 
-pub apart_all : (p : Program) (slots : ℕ) (g h : Graph) → Merges p slots g h → AreApart g.regions → AreApart h.regions
+pub apart_all : (p : Program) (slots : ℕ) (g h : Graph) → Merges p slots g h → ShareNoGlobal g.regions → ShareNoGlobal h.regions
 apart_all p slots g h stays x = x
 apart_all p slots g k (joins {h = h} e m) x = apart_all p slots h k m (apart_next p slots g h e x)

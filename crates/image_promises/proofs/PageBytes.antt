@@ -2,6 +2,7 @@
 use Rattle.std.proofs.Common.{ℕ, pos, ◌+◌, ◌-◌, ◌^◌, ◌<◌, ◌≤◌, ◌++◌, length, replicate, refl, arith}
 use Rattle.std.proofs.lemmas.Nat.{trailing_le}
 use Rattle.std.specs.Int.Signed.{le_z_yes, lt_z_yes}
+use Rattle.base_laws.specs.Lists.{EachBelow}
 use Rattle.base_words.specs.Bytes.{AreBytes}
 use Rattle.machine_thumb.specs.Table.{IsOffset}
 use Rattle.machine_thumb.specs.Bytes.{code_bytes, EachInTable}
@@ -21,7 +22,7 @@ use Rattle.monitor_program.specs.Svc.{svc}
 use Rattle.monitor_laws.proofs.Encoded.{tables_fields, in_table}
 use Rattle.monitor_handlers.proofs.SvcEncoded.{svc_in_table}
 use Rattle.monitor_handlers.proofs.Encodings.{memfault_in_table}
-use Rattle.image_promises.proofs.ByteLists.{EachBelow, below-append, below_at, ones_below, words_below, code_below}
+use Rattle.image_promises.proofs.ByteLists.{below-append, below_at, ones_below, words_below, code_below}
 
 no_offset : IsOffset 2048 (pos 0)
 no_offset = record { from = le_z_yes tt; below = lt_z_yes tt; even = refl }

@@ -6,7 +6,7 @@ use Rattle.std.proofs.lemmas.Cmp.{eq_by_cmp_equiv}
 use Rattle.std.proofs.lemmas.List.Folds.{list_any-from_Any}
 use Rattle.ir_model.specs.declared.object.ObjId.{ObjId}
 use Rattle.ir_model.specs.declared.object.ObjId.TheVariants.{Global, Periph, Local, Func}
-use Rattle.ir_model.specs.State.{Object, GlobalObject, PeriphObject, LocalObject, FunctionObject}
+use Rattle.ir_model.specs.State.{Object}
 use Rattle.ir_model.specs.Objects.{object_by, compare_objects}
 use Rattle.ir_model.proofs.ObjectOrder.{objects_total}
 use Rattle.plan_model.specs.declared.groups.Groups.{Groups}
@@ -14,6 +14,7 @@ use Rattle.plan_model.specs.Lists.{numbers_below}
 use Rattle.plan_model.specs.Groups.{compartment_of, functions_of}
 use Rattle.plan_model.specs.Needs.{has_object}
 use Rattle.need_laws.specs.Reached.{IsListed}
+use Rattle.need_laws.proofs.Listed.{id_of}
 use Rattle.std.proofs.lemmas.Bool.{and_from as both}
 use Rattle.base_laws.proofs.Lists.{any_kept as any_filtered}
 use Rattle.plan_model.proofs.Numbers.{one_passes}
@@ -27,13 +28,7 @@ one_of g test h l e =
 
 -- ---- objects
 
-abbrev pub by_object : Object → ObjId
-by_object (GlobalObject x) = Global x
-by_object (PeriphObject q) = Periph q
-by_object (LocalObject h l) = Local h l
-by_object (FunctionObject h) = Func h
-
-same_object : (x : ObjId) → x ≡ by_object (object_by x)
+same_object : (x : ObjId) → x ≡ id_of (object_by x)
 same_object (Global x) = refl
 same_object (Periph q) = refl
 same_object (Local h l) = refl
@@ -42,8 +37,8 @@ same_object (Func h) = refl
 itself : (x : ObjId) → eq_by_cmp compare_objects x x ≡ true
 itself x = (eq_by_cmp_equiv objects_total).refl x
 
-pub has_listed : (os : List ObjId) (o : Object) → IsListed os o → has_object os (by_object o) ≡ true
+pub has_listed : (os : List ObjId) (o : Object) → IsListed os o → has_object os (id_of o) ≡ true
 has_listed os o i =
     let x : ObjId = i.0 in
-    let e : x ≡ by_object o = same_object x ∙ ap by_object i.2 in
-    list_any-from_Any (λ y. eq_by_cmp compare_objects y (by_object o)) os (i.1.0, x, i.1.1, i.1.2, subst (λ y. eq_by_cmp compare_objects x y ≡ true) e (itself x))
+    let e : x ≡ id_of o = same_object x ∙ ap id_of i.2 in
+    list_any-from_Any (λ y. eq_by_cmp compare_objects y (id_of o)) os (i.1.0, x, i.1.1, i.1.2, subst (λ y. eq_by_cmp compare_objects x y ≡ true) e (itself x))

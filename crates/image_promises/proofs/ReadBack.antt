@@ -10,7 +10,7 @@ use Rattle.ir_model.specs.Resolved.{Program}
 use Rattle.ir_model.specs.Resolve.{resolve}
 use Rattle.plan_model.specs.declared.plan.Sizes.{Sizes}
 use Rattle.plan_model.specs.declared.plan.Plan.{Plan}
-use Rattle.plan_model.specs.Placement.{compartment_spot}
+use Rattle.plan_model.specs.Placement.{compartment_spot, flash_used}
 use Rattle.code_model.specs.Laws.{CompartmentsHold}
 use Rattle.code_model.specs.CompartmentCode.{compartment_size, compartment_items, compartment_labels}
 use Rattle.code_model.specs.Planned.{code_groups, code_places, planned_code}
@@ -21,7 +21,7 @@ use Rattle.monitor_program.specs.Page.{page}
 use Rattle.monitor_model.specs.declared.tables.Tables.{Tables}
 use Rattle.image_model.specs.Laws.{CountsAgree}
 use Rattle.image_model.specs.LinkedTables.{tables_of}
-use Rattle.image_model.specs.LinkedImage.{flash_size, erased, with_tables, linked}
+use Rattle.image_model.specs.LinkedImage.{erased, with_tables, linked}
 use Rattle.image_promises.specs.Planned.{planned_tables, planned_image}
 use Rattle.plan.specs.PlannedFirmwares.{planned_sizes, plan}
 use Rattle.image_promises.proofs.PlannedPremises.{PlannedPremises}
@@ -79,7 +79,7 @@ module _ (law : ReadLaws) (planned : PlannedPremises) where
   at c = (compartment_spot l c).base - b.flash_base
 
   abbrev blank : List ℕ
-  blank = erased (flash_size l)
+  blank = erased (flash_used l)
 
   abbrev tabled : List ℕ
   tabled = with_tables b.flash_base t blank
@@ -92,12 +92,12 @@ module _ (law : ReadLaws) (planned : PlannedPremises) where
   flash_bytes =
       subst AreBytes (sym flash_is)
       (put_bytes at (planned_code p n f l) 0 f.groups.count tabled
-      (written_bytes 4 (head_at t - b.flash_base) (area t) _ (written_bytes 1 (t.base - b.flash_base) (page t) blank (ones_are_bytes (flash_size l)))))
+      (written_bytes 4 (head_at t - b.flash_base) (area t) _ (written_bytes 1 (t.base - b.flash_base) (page t) blank (ones_are_bytes (flash_used l)))))
 
-  tabled_length : length tabled ≡ flash_size l
+  tabled_length : length tabled ≡ flash_used l
   tabled_length =
       length-write_all 4 (head_at t - b.flash_base) (area t) _
-      ∙ (length-write_all 1 (t.base - b.flash_base) (page t) blank ∙ length-replicate (flash_size l) 0xFF)
+      ∙ (length-write_all 1 (t.base - b.flash_base) (page t) blank ∙ length-replicate (flash_used l) 0xFF)
 
   pub code_length : (c : ℕ) → c < f.groups.count → length (planned_code p n f l c) ≡ compartment_size p (code_groups p n f.groups) c
   code_length c lt = total_bytes (compartment_labels p (code_groups p n f.groups) (code_places p n f l) c) _ (compartment_items p (code_groups p n f.groups) (code_places p n f l) c) ∙ law.code.sizes p (code_groups p n f.groups) (code_places p n f l) c
@@ -153,7 +153,7 @@ module _ (law : ReadLaws) (planned : PlannedPremises) where
       let e = tables_size_is p f s b in
       omega (arith, a, h, e)
 
-  tables_inside : l.tables.size ≤ flash_size l
+  tables_inside : l.tables.size ≤ flash_used l
   tables_inside = let e = tables_end p f s b in let z = size_is p f s b in omega (arith, e, z)
 
   pub page_byte : (k : ℕ) → k < 4096 → slice_index flash k ≡ slice_index (page t) k % 256
@@ -162,7 +162,7 @@ module _ (law : ReadLaws) (planned : PlannedPremises) where
       let fits = area_fits in
       let room = tables_inside in
       let base = base_is in
-      let size : length blank ≡ flash_size l = length-replicate (flash_size l) 0xFF in
+      let size : length blank ≡ flash_used l = length-replicate (flash_used l) 0xFF in
       let paged : List ℕ = write_all 1 (t.base - b.flash_base) (page t) blank in
       let there : t.base - b.flash_base ≡ 0 = omega (arith, base) in
       let a : slice_index flash k ≡ slice_index tabled k = tables_byte k (omega (arith, lt, fits)) in
@@ -180,7 +180,7 @@ module _ (law : ReadLaws) (planned : PlannedPremises) where
       let fits = area_fits in
       let room = tables_inside in
       let base = base_is in
-      let size : length blank ≡ flash_size l = length-replicate (flash_size l) 0xFF in
+      let size : length blank ≡ flash_used l = length-replicate (flash_used l) 0xFF in
       let paged : List ℕ = write_all 1 (t.base - b.flash_base) (page t) blank in
       let long : length paged ≡ length blank = length-write_all 1 (t.base - b.flash_base) (page t) blank in
       let a : read 4 (4096 + 4 * k) flash ≡ read 4 (4096 + 4 * k) tabled = read_alike 4 (4096 + 4 * k) flash tabled (λ i u. tables_byte (4096 + 4 * k + i) (omega (arith, u, lt, fits))) in
@@ -202,7 +202,7 @@ module _ (law : ReadLaws) (planned : PlannedPremises) where
       whole ∙ (ap (λ m. slice_index m (at c + k) % 256) flash_is
       ∙ puts_in at (planned_code p n f l) 0 f.groups.count tabled c k (omega arith) (omega (arith, lt)) u (omega (arith, room, long, h, from)) (λ d ne v. off d ne (omega (arith, v))))
     where
-      ends : (c : ℕ) → c < length l.code → (compartment_spot l c).base - b.flash_base + (compartment_spot l c).size ≤ flash_size l
+      ends : (c : ℕ) → c < length l.code → (compartment_spot l c).base - b.flash_base + (compartment_spot l c).size ≤ flash_used l
       ends c v =
           let from = ((laid law.plans planned).inside c v).0 in
           let m = code_count p f s b in

@@ -1,5 +1,5 @@
 -- Parts of code among others, and their bytes.
-use Rattle.std.proofs.Common.{◌≡◌, ℕ, suc, ◌+◌, ◌<◌, List, [], ◌∷◌, ◌++◌, length, Bool, true, false, cond, nat_eq, Option, refl, ap, sym, ◌∙◌, subst, append_assoc, length-append, arith}
+use Rattle.std.proofs.Common.{◌≡◌, ℕ, suc, ◌+◌, ◌<◌, List, [], ◌∷◌, ◌++◌, length, cond, nat_eq, Option, ap, sym, ◌∙◌, subst, append_assoc, length-append, arith}
 use Rattle.std.specs.Prelude.{slice_index}
 use Rattle.std.proofs.Math.ListN.{get_or-append}
 use Rattle.std.proofs.lemmas.List.{get_or-append-add}
@@ -9,13 +9,10 @@ use Rattle.machine_thumb_asm.specs.Finished.{bytes_at, bytes_from}
 use Rattle.machine_thumb_asm.proofs.Decoded.{total_bytes}
 use Rattle.machine_devices.specs.declared.image.Image.{Image}
 use Rattle.code_model.specs.CompartmentCode.{members_from}
+use Rattle.code_model.proofs.Members.{in_front}
 use Rattle.image_symbols.specs.Standing.{Has}
 
 -- ---- members behind others
-
-in_front : (t : Bool) (n : ℕ) (xs ys : List ℕ) → cond t (n ∷ (xs ++ ys)) (xs ++ ys) ≡ cond t (n ∷ xs) xs ++ ys
-in_front true n xs ys = refl
-in_front false n xs ys = refl
 
 pub members_append : (n : ℕ) (xs ys : List ℕ) (c : ℕ) → members_from n (xs ++ ys) c ≡ members_from n xs c ++ members_from (n + length xs) ys c
 members_append n [] ys c = ap (λ m. members_from m ys c) (let e : n ≡ n + 0 = omega arith in e)

@@ -18,6 +18,11 @@ abbrev pub wheres : List Frame → List Where
 wheres [] = []
 wheres (fr ∷ rest) = where_of fr ∷ wheres rest
 
+-- where the frames of a state stand: an ended run has none
+abbrev pub wheres_of : SourceState → List Where
+wheres_of (Running fs m) = wheres fs
+wheres_of (Ended e) = []
+
 -- the first frame moves on inside its function, or waits below a new one, which has the next number, or returns to the one
 -- below it. The numbers are of the frames that were made
 pub data Moves : List Where → ℕ → List Where → ℕ → Type 0 where

@@ -17,14 +17,14 @@ use Rattle.need_lists.proofs.Members.{partner}
 
 -- ---- objects by their numbers
 
-pub id_of : Object → ObjId
+-- the name of an object in the needs: the other way of `object_by`
+abbrev pub id_of : Object → ObjId
 id_of (GlobalObject g) = Global g
 id_of (PeriphObject q) = Periph q
 id_of (LocalObject f l) = Local f l
 id_of (FunctionObject f) = Func f
 
 pub object_by_id : (o : Object) → object_by (id_of o) ≡ o
-unfolding id_of
 object_by_id (GlobalObject g) = refl
 object_by_id (PeriphObject q) = refl
 object_by_id (LocalObject f l) = refl

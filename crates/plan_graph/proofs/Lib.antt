@@ -15,5 +15,5 @@ mod Pairs
 mod Steps
 pub mod UsersHave
 mod WholeGraph
-mod Windows
+pub mod Windows
 mod Zipped

@@ -8,11 +8,12 @@ use Rattle.ir_program.specs.declared.program.Program.{Program}
 use Rattle.ir_program.specs.declared.program.Span.{Span}
 use Rattle.ir_program.specs.Seen.{program_of, span_of}
 
-abbrev nowhere : Span
-nowhere = record { base = 0; size = 0 }
+-- of a window that is not there
+abbrev pub no_span : Span
+no_span = record { base = 0; size = 0 }
 
 -- a peripheral's window as a cover
-pub cover_read : (p : Program) (ss : List Span) (q : ℕ) → ss ≡ p.periphs → q < length p.periphs → (let c : Cover = record { base = (get_or ss q nowhere).base; size = (get_or ss q nowhere).size } in c) ≡ cover_of (program_of p) q
+pub cover_read : (p : Program) (ss : List Span) (q : ℕ) → ss ≡ p.periphs → q < length p.periphs → (let c : Cover = record { base = (get_or ss q no_span).base; size = (get_or ss q no_span).size } in c) ≡ cover_of (program_of p) q
 cover_read p ss q e l =
-    ap (λ (xs : List Span). let c : Cover = record { base = (get_or xs q nowhere).base; size = (get_or xs q nowhere).size } in c) e
-    ∙ ap (λ (w : NumberedWindow). let c : Cover = record { base = w.base; size = w.size } in c) (sym (get_or-map span_of p.periphs q nowhere no_window l))
+    ap (λ (xs : List Span). let c : Cover = record { base = (get_or xs q no_span).base; size = (get_or xs q no_span).size } in c) e
+    ∙ ap (λ (w : NumberedWindow). let c : Cover = record { base = w.base; size = w.size } in c) (sym (get_or-map span_of p.periphs q no_span no_window l))

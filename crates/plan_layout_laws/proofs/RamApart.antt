@@ -23,22 +23,23 @@ use Rattle.plan_layout_laws.proofs.Filling.{Entry, placed, Filled, filled_all, f
 use Rattle.plan_layout_laws.proofs.Hits.{held}
 use Rattle.plan_layout_laws.proofs.Uses.{use_block, AreOwn, others_own, all_own, ordered_own, positive, own_at, no_entry, InEntry, IsFound, spot_in, found, hit_twice}
 
+-- all blocks of RAM but the stack, the largest first
+abbrev pub falling_others : Program → Final → List RamBlock
+falling_others p f = falling (other_blocks p f)
+
 module _ (p : Program) (f : Final) (s : Sizes) (b : Board) where
   abbrev pub ram : Ram
   ram = ram_of p f b
 
-  abbrev pub others : List RamBlock
-  others = falling (other_blocks p f)
-
   -- the blocks in the order in which they are placed
   abbrev pub order_by : Lowest → List RamBlock
   order_by Largest = falling (ram_blocks p f b.stack)
-  order_by Stack = full_block ForStack b.stack ∷ others
+  order_by Stack = full_block ForStack b.stack ∷ falling_others p f
 
   abbrev pub blocks : List RamBlock
   blocks = order_by b.lowest
 
-  pub falling_own : AreOwn p f b.stack others
+  pub falling_own : AreOwn p f b.stack (falling_others p f)
   falling_own = ordered_own p f b.stack (λ (c d : RamBlock). nat_lt d.size c.size) (other_blocks p f) (others_own p f b.stack)
 
   own_by : (l : Lowest) → AreOwn p f b.stack (order_by l)
@@ -50,7 +51,7 @@ module _ (p : Program) (f : Final) (s : Sizes) (b : Board) where
 
   whole_by : (l : Lowest) → Filled b.ram_base (ram_by p f b l) (order_by l)
   whole_by Largest = filled_all b.ram_base (order_by Largest) (positive p f b.stack (order_by Largest) (own_by Largest))
-  whole_by Stack = filled_behind b.ram_base b.stack others (positive p f b.stack others falling_own)
+  whole_by Stack = filled_behind b.ram_base b.stack (falling_others p f) (positive p f b.stack (falling_others p f) falling_own)
 
   pub whole : Filled b.ram_base ram blocks
   unfolding ram_of

@@ -22,7 +22,7 @@ use Rattle.plan_layout_laws.proofs.PowersOfTwo.{IsPower, quotient, block_is_powe
 use Rattle.plan_layout_laws.proofs.Uses.{use_block, AreOwn, all_own, ordered_own, positive}
 use Rattle.plan_layout_laws.proofs.Within.{Within, found_in, IsBlockIn, filled_within, empty_within, none_used, stack_within, gap_divides, falls_ordered}
 use Rattle.base_laws.specs.Lists.{Each}
-use Rattle.plan_layout_laws.proofs.RamApart.{falling_own, region_there, region_missing}
+use Rattle.plan_layout_laws.proofs.RamApart.{falling_own, region_there, region_missing, falling_others}
 
 thousand : IsPower 1024
 thousand = record { exponent = 10; is = refl }
@@ -36,9 +36,6 @@ module _ (p : Program) (f : Final) (s : Sizes) (b : Board) (ok : IsBoard b) (roo
 
   own : AreOwn p f b.stack blocks
   own = ordered_own p f b.stack (λ (c d : RamBlock). nat_lt d.size c.size) (ram_blocks p f b.stack) (all_own p f b.stack)
-
-  abbrev others : List RamBlock
-  others = falling (other_blocks p f)
 
   use_power : (u : RamUse) → IsPower (use_block p f b.stack u).size
   use_power ForStack = let k = ok.stack in record { exponent = k.0; is = k.3 }
@@ -54,9 +51,9 @@ module _ (p : Program) (f : Final) (s : Sizes) (b : Board) (ok : IsBoard b) (roo
   within_by Largest = filled_within b.ram_base empty_ram blocks (empty_within b.ram_base) (falls_ordered (ram_blocks p f b.stack)) (powers blocks own) (positive p f b.stack blocks own) (none_used blocks)
   within_by Stack =
       let mine = falling_own p f s b in
-      let sizes = powers others mine in
-      filled_within b.ram_base (stack_first b.ram_base b.stack others) others (stack_within b.ram_base b.stack others (use_power ForStack)) (falls_ordered (other_blocks p f)) sizes (positive p f b.stack others mine)
-      (gap_divides b.stack others (use_power ForStack) sizes)
+      let sizes = powers (falling_others p f) mine in
+      filled_within b.ram_base (stack_first b.ram_base b.stack (falling_others p f)) (falling_others p f) (stack_within b.ram_base b.stack (falling_others p f) (use_power ForStack)) (falls_ordered (other_blocks p f)) sizes (positive p f b.stack (falling_others p f) mine)
+      (gap_divides b.stack (falling_others p f) (use_power ForStack) sizes)
 
   within : Within b.ram_base ram
   unfolding ram_of

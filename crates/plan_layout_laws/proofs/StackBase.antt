@@ -13,6 +13,7 @@ use Rattle.plan_model.specs.RamBlocks.{ForStack, ForMonitor, ForRegion, ForUnwri
 use Rattle.plan_model.specs.RamPlacement.{Ram, PlacedBlock, no_tail, tail_for, base_in, spot_at, with_block, with_block_by, empty_ram, stack_first, ram_by, ram_of}
 use Rattle.plan_model.specs.Placement.{plan_of, placed_for, no_spot}
 use Rattle.plan_layout_laws.specs.StackLowest.{IsStackLargest, StackIsLowest}
+use Rattle.plan_layout_laws.proofs.RamApart.{falling_others}
 use Rattle.plan_layout_laws.proofs.Uses.{spot_in}
 use Rattle.plan_layout_laws.proofs.Within.{all_ordered}
 use Rattle.base_laws.specs.Lists.{Each}
@@ -50,9 +51,6 @@ module _ (p : Program) (f : Final) (b : Board) where
   abbrev first : PlacedBlock
   first = spot_at b.ram_base stack_block
 
-  abbrev others : List RamBlock
-  others = falling (other_blocks p f)
-
   abbrev IsSmall : RamBlock → Type 0
   IsSmall c = c.size ≤ b.stack
 
@@ -71,9 +69,9 @@ module _ (p : Program) (f : Final) (b : Board) where
     others_small =
         (largest ForMonitor tt, each_both IsSmall (map (region_block p f.regions) (numbers_below (length f.regions))) (unwritten_block p f.unwritten) (regions_small 0 (length f.regions) (omega arith)) (unwritten_small f.unwritten refl))
 
-    falls_first : falling (ram_blocks p f b.stack) ≡ stack_block ∷ others
+    falls_first : falling (ram_blocks p f b.stack) ≡ stack_block ∷ falling_others p f
     unfolding ram_blocks
-    falls_first = first_placed stack_block others (all_ordered IsSmall (λ (c d : RamBlock). nat_lt d.size c.size) (other_blocks p f) others_small)
+    falls_first = first_placed stack_block (falling_others p f) (all_ordered IsSmall (λ (c d : RamBlock). nat_lt d.size c.size) (other_blocks p f) others_small)
 
   -- behind the empty RAM
   start : Begins first (with_block b.ram_base empty_ram stack_block)
@@ -81,10 +79,10 @@ module _ (p : Program) (f : Final) (b : Board) where
   start = let e : b.ram_base + 0 ≡ b.ram_base = omega arith in record { rest = []; is = ap (λ (n : ℕ). spot_at n stack_block ∷ []) e }
 
   begins : (l : Lowest) → (l ≡ Stack) ⊎ IsStackLargest p f b → Begins first (ram_by p f b l)
-  begins Stack h = with_all b.ram_base first (stack_first b.ram_base b.stack others) others (record { rest = []; is = refl })
+  begins Stack h = with_all b.ram_base first (stack_first b.ram_base b.stack (falling_others p f)) (falling_others p f) (record { rest = []; is = refl })
   begins Largest (inl e) = cc
   begins Largest (inr h) =
-      subst (λ (bs : List RamBlock). Begins first (fold (with_block b.ram_base) empty_ram bs)) (sym (falls_first h)) (with_all b.ram_base first (with_block b.ram_base empty_ram stack_block) others start)
+      subst (λ (bs : List RamBlock). Begins first (fold (with_block b.ram_base) empty_ram bs)) (sym (falls_first h)) (with_all b.ram_base first (with_block b.ram_base empty_ram stack_block) (falling_others p f) start)
 
   at_base : (m : Ram) → Begins first m → (placed_for m ForStack).base ≡ b.ram_base
   at_base m h = ap (λ (bs : List PlacedBlock). (unwrap_or (spot_in bs ForStack) no_spot).base) h.is

@@ -1,5 +1,5 @@
 -- Where all blocks of an image lie on a board, and where the globals lie in them.
-use Rattle.std.specs.Prelude.{ℕ, ◌+◌, ◌≤◌, length, map, get_or, Option, Some, None, position, unwrap_or}
+use Rattle.std.specs.Prelude.{ℕ, ◌+◌, ◌≤◌, length, map, get_or, Option, Some, None, position, unwrap_or, sum_by}
 use Rattle.ir_model.specs.Resolved.{Program}
 use Rattle.plan_model.specs.declared.graph.DataRegion.{DataRegion}
 use Rattle.plan_model.specs.declared.graph.Final.{Final}
@@ -49,6 +49,10 @@ region_spot l r = get_or l.regions r no_spot
 -- where the code of a compartment lies
 abbrev pub compartment_spot : Plan → (compartment : ℕ) → Spot
 compartment_spot l c = get_or l.code c no_spot
+
+-- the bytes of all blocks of flash
+abbrev pub flash_used : Plan → ℕ
+flash_used l = l.tables.size + sum_by (λ (s : Spot). s.size) l.code
 
 -- the data region of a global, if it is in one
 abbrev pub region_with : Final → (global : ℕ) → Option ℕ

@@ -1,5 +1,5 @@
 -- The ranges of a cover that no peripheral declares have each address of it that is not declared, and no other.
-use Rattle.std.proofs.Common.{◌≡◌, ℕ, zero, suc, ◌+◌, ◌-◌, ◌<◌, ◌≤◌, ⊎_elim, ◌||◌, Bool, true, false, not, nat_eq, List, ◌∷◌, map, filter, subst, refl, sym, ◌∙◌, arith}
+use Rattle.std.proofs.Common.{◌≡◌, ℕ, zero, suc, ◌+◌, ◌-◌, ◌<◌, ◌≤◌, ⊎_elim, Bool, true, false, not, nat_eq, List, ◌∷◌, map, filter, subst, refl, sym, ◌∙◌, arith}
 use Rattle.std.specs.List.{range_with_len}
 use Rattle.std.proofs.lemmas.Bool.{cases_lt, cases_eq, cases_Bool, both_ways, and_from, and_parts, or_left, or_right, or_cases, not-true, not_from_true, not_from_false, eqb-true, eq-eqb, cond_both, false_from_ne_true}
 use Rattle.ir_model.specs.Resolved.{NumberedWindow}
@@ -7,6 +7,7 @@ use Rattle.plan_model.specs.declared.graph.Cover.{Cover}
 use Rattle.plan_model.specs.Covers.{end_of}
 use Rattle.plan_report.specs.Undeclared.{Range, is_among, is_declared, undeclared_from, begins, range_at, undeclared_ranges, has_address, RiseFrom, AreUndeclared, UndeclaredRangesAreExact}
 use Rattle.plan_report.proofs.Firsts.{within, before, stops}
+use Rattle.plan_report.proofs.Gaps.{is_edge}
 use Rattle.plan_report.proofs.Spans.{among, inside}
 
 -- ---- ranges that are made of the numbers that pass a test
@@ -51,9 +52,6 @@ module _ (g : ℕ → Range) (t : ℕ → Bool) (b : ℕ) where
 -- ---- the ranges of a cover
 
 module _ (ws : List NumberedWindow) (d : Cover) where
-  abbrev is_edge : (a : ℕ) → Bool
-  is_edge a = nat_eq a d.base || is_declared ws (a - 1)
-
   -- where the range begins that has the address
   record Start (b : ℕ) : Type 0 where
     at : ℕ
@@ -62,13 +60,13 @@ module _ (ws : List NumberedWindow) (d : Cover) where
     begun : begins ws d at ≡ true
     free : (c : ℕ) → at ≤ c → c ≤ b → is_declared ws c ≡ false
 
-  starts_here : (b : ℕ) → d.base ≤ b → is_declared ws b ≡ false → is_edge b ≡ true → Start b
+  starts_here : (b : ℕ) → d.base ≤ b → is_declared ws b ≡ false → is_edge ws d b ≡ true → Start b
   starts_here b l f e =
       record {
         at = b;
         least = l;
         most = omega arith;
-        begun = and_from (not (is_declared ws b)) (is_edge b) (not_from_false (is_declared ws b) f) e;
+        begun = and_from (not (is_declared ws b)) (is_edge ws d b) (not_from_false (is_declared ws b) f) e;
         free = λ c x y. let same : b ≡ c = omega (arith, x, y) in subst (λ z. is_declared ws z ≡ false) same f;
       }
 
@@ -129,7 +127,7 @@ module _ (ws : List NumberedWindow) (d : Cover) where
   -- ---- they rise
 
   is_free : (s : ℕ) → begins ws d s ≡ true → is_declared ws s ≡ false
-  is_free s b = not-true (is_declared ws s) (and_parts (not (is_declared ws s)) (is_edge s) b).0
+  is_free s b = not-true (is_declared ws s) (and_parts (not (is_declared ws s)) (is_edge ws d s) b).0
 
   -- the next one begins behind an address that is declared
   behind : (s c : ℕ) → d.base ≤ s → s < c → begins ws d c ≡ true → s + undeclared_from ws s (end_of d - s) + 1 ≤ c
@@ -139,7 +137,7 @@ module _ (ws : List NumberedWindow) (d : Cover) where
       (λ less. absurd (both_ways (is_declared ws (c - 1)) (before (is_declared ws) s (end_of d - s) (c - 1) (omega (arith, l)) (omega (arith, less, l))) y))
       (λ more. omega (arith, more))
       (cases_lt c (s + undeclared_from ws s (end_of d - s) + 1)))
-      (or_cases (nat_eq c d.base) (is_declared ws (c - 1)) (and_parts (not (is_declared ws c)) (is_edge c) b).1)
+      (or_cases (nat_eq c d.base) (is_declared ws (c - 1)) (and_parts (not (is_declared ws c)) (is_edge ws d c) b).1)
 
   some : (s : ℕ) → s < end_of d → begins ws d s ≡ true → 0 < undeclared_from ws s (end_of d - s)
   some s h b = ⊎_elim

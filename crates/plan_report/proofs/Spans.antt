@@ -48,10 +48,6 @@ first_behind w a e l none =
 
 -- ---- one window more
 
--- of a window that is not there
-abbrev pub no_span : Span
-no_span = record { base = 0; size = 0 }
-
 more : (xs : List Span) (i : ℕ) (x d : Span) → i < length xs → x ≡ get_or xs i d → (a : ℕ)
     → is_declared (map span_of (take (i + 1) xs)) a ≡ (is_declared (map span_of (take i xs)) a || is_declared (span_of x ∷ []) a)
 more xs i x d l e a =

@@ -1,5 +1,5 @@
 -- What `list` prints: the policy, each compartment, the globals that nobody reaches, and what is used of the memories.
-use Rattle.std.specs.Prelude.{ℕ, ◌+◌, ◌-◌, List, [], ◌∷◌, ◌++◌, map, flat_map, codes, length, sum_by, Option, Some, None}
+use Rattle.std.specs.Prelude.{ℕ, ◌+◌, ◌-◌, List, [], ◌∷◌, ◌++◌, map, flat_map, codes, length, Option, Some, None}
 use Rattle.std.specs.Fmt.{decimal}
 use Rattle.machine_lines.specs.Lines.{line_feed}
 use Rattle.plan_model.specs.declared.plan.Spot.{Spot}
@@ -7,16 +7,13 @@ use Rattle.plan_model.specs.declared.plan.Plan.{Plan}
 use Rattle.plan_model.specs.declared.needs.SiteNeed.{SiteNeed}
 use Rattle.plan_model.specs.Choices.{greatest}
 use Rattle.plan_model.specs.Lists.{numbers_below}
+use Rattle.plan_model.specs.Placement.{flash_used}
 use Rattle.plan_model.specs.Crossing.{crossing_sites, target_count}
 use Rattle.plan_report.specs.Subjects.{Subject}
 use Rattle.plan_report.specs.Names.{global_name, spaced, range_text}
 use Rattle.plan_report.specs.CompartmentLines.{compartment_lines}
 
 -- ---- what is used of the memories
-
--- the blocks of flash together
-abbrev pub flash_used : Plan → ℕ
-flash_used l = l.tables.size + sum_by (λ (s : Spot). s.size) l.code
 
 abbrev pub end_of : Spot → ℕ
 end_of s = s.base + s.size

@@ -2,6 +2,7 @@
 
 ghost use Rattle.std.specs.Prelude.{◌≡◌, ◌++◌, OnOk, IfOk, length, filter};
 ghost use Rattle.plan_model.specs.Crossing as crossing;
+ghost use Rattle.plan_model.specs.Placement as placement;
 ghost use Rattle.plan_report.specs.Listing as listing;
 ghost use Rattle.plan_report.specs.Subjects.{subject_of};
 
@@ -59,7 +60,7 @@ pub(crate) fn put_sites(text: &mut Text, subject: &Subject<'_>) -> Result<(), Al
 
 /// The blocks of flash together.
 fn flash_used(plan: &Plan) -> Result<u64, AllocError>
-    ensures { IfOk result (λ n. n ≡ listing.flash_used plan.now) }
+    ensures { IfOk result (λ n. n ≡ placement.flash_used plan.now) }
 {
     let mut bytes = u64::from(plan.tables.size);
     let spots = plan.code.as_slice();

@@ -1,5 +1,6 @@
 -- What the monitor's block says while a frame runs, and what the frame's registers hold.
 use Rattle.std.proofs.Common.{◌≡◌, ℕ, ◌+◌, ◌*◌, ◌<◌, ◌≤◌, Option, Some, None, List, [], ◌∷◌, length, refl, sym, ap, ◌∙◌, arith}
+use Rattle.base_laws.specs.Lists.{EachBelow}
 use Rattle.base_words.specs.Bytes.{read, cut}
 use Rattle.base_words.proofs.Bytes.{read_fits, cut_small}
 use Rattle.ir_model.specs.Resolved.{Value, Number}
@@ -10,7 +11,6 @@ use Rattle.code_model.specs.Places.{Lend}
 use Rattle.monitor_model.specs.Block.{MonitorBlock, lent}
 use Rattle.monitor_model.specs.Setting.{Setting}
 use Rattle.monitor_model.specs.Threads.{base, HasRoom}
-use Rattle.code_effects.specs.Calls.{AllBelow}
 use Rattle.refine.specs.Areas.{Has}
 use Rattle.refine.specs.Owned.{all_lent, loan_of}
 use Rattle.refine.proofs.Areas.{loaded_spot}
@@ -85,6 +85,6 @@ module _ (k : Build) (places : ℕ → ℕ) (facts : Facts k) where
       loaded_spot (areas k places (wheres (fr ∷ rest))) (held k places ss (fr ∷ rest) gs) _ (record { at = places fr.number + 4 * r; width = 4 }) (word_of k places (register fr r)) (word_of k places (Number 0)) ram has
       (register_spot k places fr rest ss gs r (Number 0) (facts.shapes fr.func) wh (let l = wh.regs in omega arith))
 
-  pub below_more : (n w : ℕ) (as_ : List ℕ) → n ≤ w → AllBelow n as_ → AllBelow w as_
+  pub below_more : (n w : ℕ) (as_ : List ℕ) → n ≤ w → EachBelow n as_ → EachBelow w as_
   below_more n w [] l b = tt
   below_more n w (a ∷ as_) l b = (omega (arith, b.0), below_more n w as_ l b.1)

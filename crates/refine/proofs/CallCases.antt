@@ -1,6 +1,7 @@
 -- The cases of calls: across compartments, and through a register.
 use Rattle.std.proofs.Common.{◌≡◌, ℕ, suc, ◌+◌, ◌*◌, ◌<◌, ◌≤◌, true, false, Option, Some, None, is_some, List, [], ◌∷◌, length, map, get_or, refl, sym, ap, ◌∙◌, subst, arith, inl, inr, ⊎_elim}
 use Rattle.std.specs.Prelude.{option_to_list}
+use Rattle.base_laws.specs.Lists.{EachBelow}
 use Rattle.base_words.specs.Bytes.{read}
 use Rattle.machine_model.specs.State.{State}
 use Rattle.machine_model.specs.RunningCode.{Context}
@@ -9,7 +10,7 @@ use Rattle.ir_model.specs.Resolved.{Value, Number, Code, Null, At, Call, ICall, 
 use Rattle.ir_model.specs.Signatures.{in_row, row_length, signature}
 use Rattle.ir_model.specs.State.{Frame, Memory, Running}
 use Rattle.ir_model.specs.Step.{register, Enters, with_code, act, perform}
-use Rattle.ir_laws.specs.Moves.{where_of, wheres}
+use Rattle.ir_laws.specs.Moves.{where_of, wheres, wheres_of}
 use Rattle.ir_laws.specs.Sets.{ObjectSets, CallsAt}
 use Rattle.ir_laws.specs.Typed.{Has, InstTyped, CallTyped, ICallTyped}
 use Rattle.ir_laws.specs.States.{FrameFits}
@@ -17,13 +18,12 @@ use Rattle.code_model.specs.Places.{entry_address}
 use Rattle.code_model.specs.Sizes.{call_size, icall_size}
 use Rattle.code_model.specs.Templates.{inst_items}
 use Rattle.monitor_model.specs.Block.{MonitorBlock}
-use Rattle.code_effects.specs.Calls.{AllBelow}
 use Rattle.refine_model.specs.Refines.{HasFault}
 use Rattle.refine.specs.Owned.{Owns}
 use Rattle.refine.proofs.Callees.{icalls, crosses, icrosses}
 use Rattle.refine.specs.Builds.{Build, compartment_of, func, words_at, places_at, labels_at, entry_at, half_at, site_at}
 use Rattle.refine.specs.Relation.{word_of, block_of}
-use Rattle.refine.specs.Cases.{LiesFirst, standing}
+use Rattle.refine.specs.Cases.{LiesFirst}
 use Rattle.refine.specs.Serving.{Serves, CaseServes}
 use Rattle.refine.proofs.Blocks.{top_least, below_more}
 use Rattle.refine.proofs.Premises.{Premises}
@@ -43,7 +43,7 @@ module _ (k : Build) (Inv : MonitorBlock → Context → List ℕ → Type 0) (s
     abbrev Entered : (h : ℕ) (args : List ℕ) → Type 0
     Entered h args = Serves k Inv places (wheres (fr ∷ rest)) t (Running (new_frame h args ∷ fr ∷ rest) (record m { made = suc m.made })) []
 
-    arguments_below : (ts : PlainTypes) (args : List ℕ) → ((j : ℕ) → j < length args → Has (func k fr.func) (get_or args j 0) (in_row ts j)) → AllBelow (length (func k fr.func).regs) args
+    arguments_below : (ts : PlainTypes) (args : List ℕ) → ((j : ℕ) → j < length args → Has (func k fr.func) (get_or args j 0) (in_row ts j)) → EachBelow (length (func k fr.func).regs) args
     arguments_below ts args each = all_below (func k fr.func) ts args 0 (λ j l. let z : j ≡ 0 + j = omega arith in subst (λ (n : ℕ). Has (func k fr.func) (get_or args j 0) (in_row ts n)) z (each j l))
 
     abbrev LiesHere : (h : ℕ) → Type 0
@@ -182,7 +182,7 @@ module _ (k : Build) (Inv : MonitorBlock → Context → List ℕ → Type 0) (s
     by_code to r args ty e (At o c) is = λ nf lies. absurd (nf (subst (λ (x : Value). HasFault (perform k.program k.groups.of fr rest m (with_code x (λ g. Enters g (map (register fr) args)))).to) (sym is) tt))
     by_code to r args ty e (Code h) is = subst (λ (x : Value).
         (HasFault (perform k.program k.groups.of fr rest m (with_code x (λ g. Enters g (map (register fr) args)))).to → ⊥)
-        → LiesFirst k Inv places (standing k Inv places (perform k.program k.groups.of fr rest m (with_code x (λ g. Enters g (map (register fr) args)))).to)
+        → LiesFirst k Inv places (wheres_of (perform k.program k.groups.of fr rest m (with_code x (λ g. Enters g (map (register fr) args)))).to)
         → Serves k Inv places (wheres (fr ∷ rest)) t (perform k.program k.groups.of fr rest m (with_code x (λ g. Enters g (map (register fr) args)))).to (option_to_list (perform k.program k.groups.of fr rest m (with_code x (λ g. Enters g (map (register fr) args)))).event)) (sym is)
         (λ nf lies. by (site_at k fr.func fr.block fr.place) refl lies)
       where

@@ -3,6 +3,7 @@ use Rattle.std.proofs.Common.{◌≡◌, ℕ, zero, suc, ◌+◌, ◌-◌, ◌*�
 use Rattle.std.proofs.Math.Nat.{div-mul-le_self, suc-mul}
 use Rattle.std.proofs.lemmas.Bool.{cases_lt}
 use Rattle.std.proofs.lemmas.List.{get_or-set_same, length-set, length-map}
+use Rattle.base_laws.specs.Lists.{EachBelow}
 use Rattle.base_words.specs.Bytes.{read, cut}
 use Rattle.base_words.specs.declared.conditions.Flags.{Flags}
 use Rattle.machine_model.specs.State.{State, by_mpu}
@@ -20,7 +21,6 @@ use Rattle.monitor_model.specs.Setting.{Setting}
 use Rattle.monitor_model.specs.Threads.{svc, base, lend_steps, HasRoom, AtInstr, Enters}
 use Rattle.monitor_model.specs.Law.{Law}
 use Rattle.code_effects.specs.Points.{Point, known, with_r12, Arrives}
-use Rattle.code_effects.specs.Calls.{AllBelow}
 use Rattle.code_effects.proofs.Registers.{holds_nothing, known_holds}
 use Rattle.refine.specs.CodeLaws.{CodeLaws}
 use Rattle.refine.specs.Owned.{owner, Owns, MemoryRules}
@@ -252,7 +252,7 @@ module _ (g : Setting) (Inv : MonitorBlock → Context → List ℕ → Type 0) 
 
   module _ (fc : NumberedFunc) (qc : Places) (labels_c : List (Option ℕ)) (fn : NumberedFunc) (q : Places) (labels : List (Option ℕ)) where
     pub calls : (m : MonitorBlock) (x : Context) (low : List ℕ) (oc wc w lr pc : ℕ) (f : Flags) (to : Option ℕ) (h : ℕ) (args ram : List ℕ) (queues : List (List ℕ)) → Inv m x ram →
-        StateFits g.image (works x low (base g + oc) lr pc f ram queues) → oc % 8 ≡ 0 → g.stack ≤ oc → base g + oc + 4 * wc ≤ m.top → base g + oc ≤ m.top → AllBelow wc args → pc < 2 ^ 30 → entry_address qc h < 2 ^ 30 →
+        StateFits g.image (works x low (base g + oc) lr pc f ram queues) → oc % 8 ≡ 0 → g.stack ≤ oc → base g + oc + 4 * wc ≤ m.top → base g + oc ≤ m.top → EachBelow wc args → pc < 2 ^ 30 → entry_address qc h < 2 ^ 30 →
         Owns g m.current labels_c pc (inst_items fc qc pc None (Call to h args)) → CalleeStands g fn q labels m.current w (entry_address qc h) (length (frame_words oc ram args)) → length m.loans ≤ 32 →
         IsCalled g Inv fn q (works x low (base g + oc) lr pc f ram queues) m oc w (entry_address qc h) (frame_words oc ram args) (pc + call_size false args + 1) ram queues
         ⊎ RunsShort g Inv (LacksRoom g w oc (length m.loans + length (lends_of fn q))) 16384 (works x low (base g + oc) lr pc f ram queues)
@@ -267,7 +267,7 @@ module _ (g : Setting) (Inv : MonitorBlock → Context → List ℕ → Type 0) 
         inside fn q labels w m (length args + 1) _ x oc _ _ (frame_words oc ram args) ram queues (omega arith) i ft a al lo hi2 c loans
 
     pub icalls : (m : MonitorBlock) (x : Context) (low : List ℕ) (oc wc w lr pc callee : ℕ) (f : Flags) (to : Option ℕ) (h : ℕ) (args ram : List ℕ) (queues : List (List ℕ)) → Inv m x ram →
-        StateFits g.image (works x low (base g + oc) lr pc f ram queues) → oc % 8 ≡ 0 → g.stack ≤ oc → base g + oc + 4 * wc ≤ m.top → base g + oc ≤ m.top → h < wc → AllBelow wc args → read 4 (oc + 4 * h) ram ≡ callee + 1 → callee % 2 ≡ 0 →
+        StateFits g.image (works x low (base g + oc) lr pc f ram queues) → oc % 8 ≡ 0 → g.stack ≤ oc → base g + oc + 4 * wc ≤ m.top → base g + oc ≤ m.top → h < wc → EachBelow wc args → read 4 (oc + 4 * h) ram ≡ callee + 1 → callee % 2 ≡ 0 →
         Owns g m.current labels_c pc (inst_items fc qc pc None (ICall to h args)) → CalleeStands g fn q labels m.current w callee (length (frame_words oc ram args)) → length m.loans ≤ 32 →
         IsCalled g Inv fn q (works x low (base g + oc) lr pc f ram queues) m oc w callee (frame_words oc ram args) (pc + icall_size false args + 1) ram queues
         ⊎ RunsShort g Inv (LacksRoom g w oc (length m.loans + length (lends_of fn q))) 16384 (works x low (base g + oc) lr pc f ram queues)
@@ -284,7 +284,7 @@ module _ (g : Setting) (Inv : MonitorBlock → Context → List ℕ → Type 0) 
         inside fn q labels w m (length args + 3) _ (with_r12 x (callee + 1)) oc _ _ (frame_words oc ram args) ram queues (omega arith) i1 ft a al lo hi2 c loans
 
     pub crosses : (m : MonitorBlock) (x : Context) (low : List ℕ) (oc wc w lr pc site target : ℕ) (f : Flags) (to : Option ℕ) (h : ℕ) (args ram : List ℕ) (queues : List (List ℕ)) → Inv m x ram →
-        StateFits g.image (works x low (base g + oc) lr pc f ram queues) → oc % 8 ≡ 0 → g.stack ≤ oc → base g + oc + 4 * wc ≤ m.top → base g + oc ≤ m.top → AllBelow wc args → entry_address qc h + 1 < 2 ^ 32 → entry_address qc h % 2 ≡ 0 →
+        StateFits g.image (works x low (base g + oc) lr pc f ram queues) → oc % 8 ≡ 0 → g.stack ≤ oc → base g + oc + 4 * wc ≤ m.top → base g + oc ≤ m.top → EachBelow wc args → entry_address qc h + 1 < 2 ^ 32 → entry_address qc h % 2 ≡ 0 →
         Owns g m.current labels_c pc (inst_items fc qc pc (Some site) (Call to h args)) → g.has_target site (pc + (8 + 2 * length args) + 2) (entry_address qc h) target ≡ true →
         CalleeStands g fn q labels target w (entry_address qc h) (length (frame_words oc ram args)) → length m.loans ≤ 32 →
         IsCrossed g Inv fn q (works x low (base g + oc) lr pc f ram queues) m oc w (entry_address qc h) target (frame_words oc ram args) (pc + (8 + 2 * length args) + 4) ram queues
@@ -308,7 +308,7 @@ module _ (g : Setting) (Inv : MonitorBlock → Context → List ℕ → Type 0) 
         st2.0 (call_owned g m.current x.protection (pc + (8 + 2 * length args)) 0 st.0) st.1 hit r12 even (frame_words_fit oc ram args) c loans
 
     pub icrosses : (m : MonitorBlock) (x : Context) (low : List ℕ) (oc wc w lr pc entry site target : ℕ) (f : Flags) (to : Option ℕ) (h : ℕ) (args ram : List ℕ) (queues : List (List ℕ)) → Inv m x ram →
-        StateFits g.image (works x low (base g + oc) lr pc f ram queues) → oc % 8 ≡ 0 → g.stack ≤ oc → base g + oc + 4 * wc ≤ m.top → base g + oc ≤ m.top → h < wc → AllBelow wc args → read 4 (oc + 4 * h) ram ≡ entry + 1 → entry % 2 ≡ 0 →
+        StateFits g.image (works x low (base g + oc) lr pc f ram queues) → oc % 8 ≡ 0 → g.stack ≤ oc → base g + oc + 4 * wc ≤ m.top → base g + oc ≤ m.top → h < wc → EachBelow wc args → read 4 (oc + 4 * h) ram ≡ entry + 1 → entry % 2 ≡ 0 →
         Owns g m.current labels_c pc (inst_items fc qc pc (Some site) (ICall to h args)) → g.has_target site (pc + (4 + 2 * length args) + 2) entry target ≡ true →
         CalleeStands g fn q labels target w entry (length (frame_words oc ram args)) → length m.loans ≤ 32 →
         IsCrossed g Inv fn q (works x low (base g + oc) lr pc f ram queues) m oc w entry target (frame_words oc ram args) (pc + (4 + 2 * length args) + 4) ram queues

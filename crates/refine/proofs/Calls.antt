@@ -2,6 +2,7 @@
 use Rattle.std.proofs.Common.{◌≡◌, ℕ, zero, suc, ◌+◌, ◌-◌, ◌*◌, ◌/◌, ◌%◌, ◌^◌, ◌<◌, ◌≤◌, false, Option, Some, None, is_some, List, [], ◌∷◌, ◌++◌, length, map, get_or, refl, sym, ap, ◌∙◌, subst, arith, inl, inr, ⊎_elim}
 use Rattle.std.proofs.Math.Nat.{div-mul-le_self}
 use Rattle.std.proofs.lemmas.List.{length-map}
+use Rattle.base_laws.specs.Lists.{EachBelow}
 use Rattle.base_words.specs.Bytes.{read, cut}
 use Rattle.base_words.proofs.Bytes.{read_fits}
 use Rattle.machine_model.specs.State.{State}
@@ -21,7 +22,6 @@ use Rattle.code_model.specs.Templates.{inst_items, entry_items}
 use Rattle.monitor_model.specs.Block.{MonitorBlock, entered}
 use Rattle.monitor_model.specs.Setting.{Setting}
 use Rattle.monitor_model.specs.Threads.{base}
-use Rattle.code_effects.specs.Calls.{AllBelow}
 use Rattle.refine.specs.Areas.{Has as MemoryHas}
 use Rattle.refine.specs.Owned.{Owns, all_lent}
 use Rattle.refine.proofs.Areas.{has_join}
@@ -52,7 +52,7 @@ params_there g each = by (row_length g.params) refl
     by zero e = omega arith
     by (suc n) e = let h = (each n (omega arith)).there in omega arith
 
-pub all_below : (g : NumberedFunc) (ts : PlainTypes) (args : List ℕ) (k : ℕ) → ((j : ℕ) → j < length args → Has g (get_or args j 0) (in_row ts (k + j))) → AllBelow (length g.regs) args
+pub all_below : (g : NumberedFunc) (ts : PlainTypes) (args : List ℕ) (k : ℕ) → ((j : ℕ) → j < length args → Has g (get_or args j 0) (in_row ts (k + j))) → EachBelow (length g.regs) args
 all_below g ts [] k each = tt
 all_below g ts (a ∷ more) k each = ((each 0 (omega arith)).there, all_below g ts more (suc k) (λ j l. let z : k + suc j ≡ suc k + j = omega arith in subst (λ (n : ℕ). Has g (get_or more j 0) (in_row ts n)) z (each (suc j) (omega arith))))
 
@@ -62,7 +62,7 @@ module _ (k : Build) (Inv : MonitorBlock → Context → List ℕ → Type 0) (s
 
   module _ (fr : Frame) (rest : List Frame) (m : Memory) (t : State) (st : HereStands k Inv sizes S w places fr rest m t) (ff : FrameFits k.program sizes S fr) where
     -- arguments, as words of the caller's frame
-    arguments_are : (args : List ℕ) → AllBelow (length (func k fr.func).regs) args → (i : ℕ) → i < length args → get_or (frame_words (places fr.number) st.ram args) i 0 ≡ get_or (words_of k places (map (register fr) args)) i 0
+    arguments_are : (args : List ℕ) → EachBelow (length (func k fr.func).regs) args → (i : ℕ) → i < length args → get_or (frame_words (places fr.number) st.ram args) i 0 ≡ get_or (words_of k places (map (register fr) args)) i 0
     arguments_are [] b i l = absurd (omega arith)
     arguments_are (a ∷ more) b zero l = register_word k Inv sizes S w places fr rest m t st ff a b.0
     arguments_are (a ∷ more) b (suc i) l = arguments_are more b.1 i (omega arith)
@@ -71,7 +71,7 @@ module _ (k : Build) (Inv : MonitorBlock → Context → List ℕ → Type 0) (s
     callee_frame h args = frame_of k.program h m.made (map (register fr) args)
 
     -- the new frame's own words
-    new_own : (h o l : ℕ) (args new : List ℕ) → AllBelow (length (func k fr.func).regs) args → length args ≤ length (func k h).regs → Filled o (words_at k h) l (frame_words (places fr.number) st.ram args) new → o + 4 * words_at k h + 4 ≤ length new →
+    new_own : (h o l : ℕ) (args new : List ℕ) → EachBelow (length (func k fr.func).regs) args → length args ≤ length (func k h).regs → Filled o (words_at k h) l (frame_words (places fr.number) st.ram args) new → o + 4 * words_at k h + 4 ≤ length new →
         MemoryHas new (own k h o) (own_words k places (callee_frame h args) l)
     new_own h o l args new b few fl fits =
         let n = length-map args (λ (a : ℕ). read 4 (places fr.number + 4 * a) st.ram) in
@@ -79,7 +79,7 @@ module _ (k : Build) (Inv : MonitorBlock → Context → List ℕ → Type 0) (s
         (λ i u. fl.given i (omega arith) ∙ ap (λ (v : ℕ). cut 4 v) (arguments_are args b i u)) (λ i u v. fl.cleared i (omega arith) v) fl.return_address fits
 
     -- within the compartment
-    pub called_step : (h : ℕ) (args : List ℕ) (link pc : ℕ) → site_at k fr.func fr.block fr.place ≡ None → link ≡ behind_at k fr.func fr.block fr.place + 1 → pc ≡ code_at k h 0 0 → AllBelow (length (func k fr.func).regs) args → length args ≤ length (func k h).regs →
+    pub called_step : (h : ℕ) (args : List ℕ) (link pc : ℕ) → site_at k fr.func fr.block fr.place ≡ None → link ≡ behind_at k fr.func fr.block fr.place + 1 → pc ≡ code_at k h 0 0 → EachBelow (length (func k fr.func).regs) args → length args ≤ length (func k h).regs →
         HasPlace k places (where_of (callee_frame h args)) (wheres (fr ∷ rest)) →
         Called gs Inv (state_of k Inv sizes S w places fr rest m t st) (all_lent gs (places m.made) (block_of k places (wheres (fr ∷ rest))) (lends_at k h)) (places m.made) (words_at k h) pc (places fr.number) (frame_words (places fr.number) st.ram args) link st.ram m.queues →
         Follows k Inv places t (Running (callee_frame h args ∷ fr ∷ rest) (record m { made = suc m.made })) []
@@ -125,7 +125,7 @@ module _ (k : Build) (Inv : MonitorBlock → Context → List ℕ → Type 0) (s
     small_read a v ram e = let f = read_fits 4 a ram in omega arith
 
     -- and across
-    pub crossed_step : (h : ℕ) (args : List ℕ) (number ret pc top : ℕ) → site_at k fr.func fr.block fr.place ≡ Some number → ret ≡ behind_at k fr.func fr.block fr.place → pc ≡ code_at k h 0 0 → AllBelow (length (func k fr.func).regs) args → length args ≤ length (func k h).regs →
+    pub crossed_step : (h : ℕ) (args : List ℕ) (number ret pc top : ℕ) → site_at k fr.func fr.block fr.place ≡ Some number → ret ≡ behind_at k fr.func fr.block fr.place → pc ≡ code_at k h 0 0 → EachBelow (length (func k fr.func).regs) args → length args ≤ length (func k h).regs →
         top ≡ gs.stack + (places fr.number - 32 - gs.stack) / gs.eighth * gs.eighth → HasPlace k places (where_of (callee_frame h args)) (wheres (fr ∷ rest)) →
         Crossed gs Inv (state_of k Inv sizes S w places fr rest m t st) (all_lent gs (places m.made) (entered (block_of k places (wheres (fr ∷ rest))) (compartment_of k h) (base gs + top) (base gs + places fr.number - 32)) (lends_at k h)) (places m.made) (words_at k h) pc (places fr.number)
         (frame_words (places fr.number) st.ram args) ret st.ram m.queues →
@@ -239,7 +239,7 @@ module _ (k : Build) (Inv : MonitorBlock → Context → List ℕ → Type 0) (s
     -- ---- the four kinds
 
     -- the callee within the compartment, whose frame is found where it has to lie
-    pub called_there : (h : ℕ) (args : List ℕ) (entry link : ℕ) → site_at k fr.func fr.block fr.place ≡ None → LiesBelow h → link ≡ behind_at k fr.func fr.block fr.place + 1 → entry_at k h ≡ entry → AllBelow (length (func k fr.func).regs) args → length args ≤ length (func k h).regs →
+    pub called_there : (h : ℕ) (args : List ℕ) (entry link : ℕ) → site_at k fr.func fr.block fr.place ≡ None → LiesBelow h → link ≡ behind_at k fr.func fr.block fr.place + 1 → entry_at k h ≡ entry → EachBelow (length (func k fr.func).regs) args → length args ≤ length (func k h).regs →
         (block_of k places (wheres (fr ∷ rest))).current ≡ compartment_of k h →
         IsCalled gs Inv (func k h) (places_at k h) (state_of k Inv sizes S w places fr rest m t st) (block_of k places (wheres (fr ∷ rest))) (places fr.number) (words_at k h) entry (frame_words (places fr.number) st.ram args) link st.ram m.queues →
         Follows k Inv places t (Running (callee_frame h args ∷ fr ∷ rest) (record m { made = suc m.made })) []
@@ -254,7 +254,7 @@ module _ (k : Build) (Inv : MonitorBlock → Context → List ℕ → Type 0) (s
         called_step h args link (entry + entry_size (func k h) (length (lends_at k h))) site eb (begins_at h entry ee) b few fit moved
 
     -- and across
-    pub crossed_there : (h number : ℕ) (args : List ℕ) (entry ret : ℕ) → site_at k fr.func fr.block fr.place ≡ Some number → LiesBelow h → ret ≡ behind_at k fr.func fr.block fr.place → entry_at k h ≡ entry → AllBelow (length (func k fr.func).regs) args → length args ≤ length (func k h).regs →
+    pub crossed_there : (h number : ℕ) (args : List ℕ) (entry ret : ℕ) → site_at k fr.func fr.block fr.place ≡ Some number → LiesBelow h → ret ≡ behind_at k fr.func fr.block fr.place → entry_at k h ≡ entry → EachBelow (length (func k fr.func).regs) args → length args ≤ length (func k h).regs →
         IsCrossed gs Inv (func k h) (places_at k h) (state_of k Inv sizes S w places fr rest m t st) (block_of k places (wheres (fr ∷ rest))) (places fr.number) (words_at k h) entry (compartment_of k h) (frame_words (places fr.number) st.ram args) ret st.ram m.queues →
         Follows k Inv places t (Running (callee_frame h args ∷ fr ∷ rest) (record m { made = suc m.made })) []
     crossed_there h number args entry ret site lies eb ee b few c =

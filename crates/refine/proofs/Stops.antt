@@ -7,7 +7,7 @@ use Rattle.base_words.specs.Arithmetic.{word}
 use Rattle.base_words.specs.declared.conditions.Flags.{Flags}
 use Rattle.base_words.specs.Flags.{result_flags}
 use Rattle.machine_thumb.specs.declared.table.Instr.{Instr}
-use Rattle.machine_thumb.specs.declared.table.Instr.TheVariants.{PushPop, TransferImmediate}
+use Rattle.machine_thumb.specs.declared.table.Instr.TheVariants.{TransferImmediate}
 use Rattle.machine_protection.specs.declared.region.Access.TheVariants.{Read, Write}
 use Rattle.machine_devices.specs.declared.image.Image.{Image}
 use Rattle.machine_model.specs.declared.state.End.TheVariants.{Stop}
@@ -30,6 +30,7 @@ use Rattle.code_model.specs.Words.{byte_into}
 use Rattle.code_model.specs.Entry.{sub_by, stores_code, frame_code, lend_code, enter_code}
 use Rattle.code_model.specs.Templates.{lends_of, entry_items}
 use Rattle.code_effects.proofs.Items.{plain_code}
+use Rattle.code_effects.proofs.Entry.{frame_by}
 use Rattle.monitor_model.specs.Block.{MonitorBlock}
 use Rattle.monitor_model.specs.Setting.{Setting}
 use Rattle.monitor_model.specs.Threads.{svc, base}
@@ -42,10 +43,6 @@ use Rattle.refine.specs.Ends.{NoFrame}
 use Rattle.refine.specs.Entries.{EndsShort, most_words}
 use Rattle.monitor_sound.proofs.Room.{frame_is}
 use Rattle.refine.proofs.Refusals.{closed_frame, IsShut, stopped, str_stops, push_lr_stops, svc_stops, transfer_store_stops, transfer_load_stops}
-
--- the code of a frame, by which form of SUB it has
-frame_by : (b : Bool) (n w : ℕ) → List Instr
-frame_by b n w = (PushPop 0 1 0 0 ∷ sub_by b w) ++ (stores_code (λ k. k) n 0 ++ (byte_into 0 0 ∷ stores_code (λ k. 0) (w - n) n))
 
 -- SUB SP, once or twice
 module _ (j : PermissionTest) (i : Image) (x : Context) (low : List ℕ) (lr : ℕ) (f : Flags) (ram : List ℕ) (queues : List (List ℕ)) where

@@ -14,7 +14,7 @@ use Rattle.ir_model.specs.State.{Frame, Memory, SourceState, Running, Ended, Sou
 use Rattle.ir_model.specs.State as source
 use Rattle.ir_model.specs.Step.{source_turn, source_step, source_event}
 use Rattle.ir_model.specs.Runs.{source_after}
-use Rattle.ir_laws.specs.Moves.{Where, where_of, wheres, Moves, MovesTo, FramesMove}
+use Rattle.ir_laws.specs.Moves.{Where, where_of, wheres, Moves, MovesTo, FramesMove, wheres_of}
 use Rattle.ir_laws.specs.Sets.{ObjectSets}
 use Rattle.ir_laws.specs.States.{StateFits}
 use Rattle.monitor_model.specs.Block.{MonitorBlock}
@@ -34,10 +34,6 @@ use Rattle.refine.proofs.Premises.{Premises}
 use Rattle.refine.proofs.AllCases.{cases_serve}
 use Rattle.refine.proofs.Begins.{begin_step}
 use Rattle.refine.proofs.Runs.{EndsBy, EndsBefore, Followed, served}
-
-abbrev wheres_of : SourceState → List Where
-wheres_of (Running fs m) = wheres fs
-wheres_of (Ended e) = []
 
 abbrev made_of : SourceState → ℕ
 made_of (Running fs m) = m.made

@@ -7,9 +7,9 @@ use Rattle.machine_model.specs.State.{State, by_mpu}
 use Rattle.machine_model.specs.Code.{Runs}
 use Rattle.machine_model.specs.RunningCode.{Context}
 use Rattle.ir_model.specs.Resolved.{Here}
-use Rattle.ir_model.specs.State.{Frame, Memory, SourceState, Running, Ended}
+use Rattle.ir_model.specs.State.{Frame, Memory, SourceState}
 use Rattle.ir_model.specs.Step.{turn_here}
-use Rattle.ir_laws.specs.Moves.{Where, wheres}
+use Rattle.ir_laws.specs.Moves.{Where}
 use Rattle.monitor_model.specs.Block.{MonitorBlock}
 use Rattle.refine_model.specs.Refines.{HasFault, step_limit}
 use Rattle.refine.specs.Builds.{Build, words_at}
@@ -27,11 +27,6 @@ pub record FollowsBy (R : SourceState → State → Type 0) (i : Image) (most : 
 module _ (k : Build) (Inv : MonitorBlock → Context → List ℕ → Type 0) (places : ℕ → ℕ) where
   abbrev pub Follows : (from : State) (s : SourceState) (es : List Event) → Type 0
   Follows t s es = FollowsBy (Related k places Inv) k.setting.image step_limit t s es
-
-  -- where the frames of a state stand
-  abbrev pub standing : SourceState → List Where
-  standing (Running fs m) = wheres fs
-  standing (Ended e) = []
 
   -- the step from a place where this stands, if it meets no fault
   abbrev pub CaseFollows : (fr : Frame) (rest : List Frame) (m : Memory) (t : State) → Here → Type 0

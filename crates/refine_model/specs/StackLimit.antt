@@ -5,8 +5,8 @@
 -- a whole number of eighths. A position is what is left of the stack below a frame, in bytes.
 use Rattle.std.specs.Prelude.{ℕ, ◌+◌, ◌-◌, ◌*◌, ◌/◌, ◌≤◌, List, [], ◌∷◌, Option, Some, None}
 use Rattle.ir_model.specs.Resolved.{Program, func_at}
-use Rattle.ir_model.specs.State.{SourceState, Running, Ended}
-use Rattle.ir_laws.specs.Moves.{Where, wheres}
+use Rattle.ir_model.specs.State.{SourceState}
+use Rattle.ir_laws.specs.Moves.{Where, wheres_of}
 use Rattle.plan_model.specs.declared.needs.Needs.{Needs}
 use Rattle.plan_model.specs.declared.groups.Groups.{Groups}
 use Rattle.plan_model.specs.Crossing.{site_number}
@@ -53,10 +53,6 @@ module _ (p : Program) (n : Needs) (g : Groups) (stack : ℕ) where
   HaveRoom [] = Unit {0}
   HaveRoom (w ∷ ws) = HasRoom w ws × HaveRoom ws
 
-  abbrev pub frames_of : SourceState → List Where
-  frames_of (Running fs m) = wheres fs
-  frames_of (Ended e) = []
-
   -- of one state
   abbrev pub IsWithinStack : SourceState → Type 0
-  IsWithinStack s = HaveRoom (frames_of s)
+  IsWithinStack s = HaveRoom (wheres_of s)

@@ -1,6 +1,7 @@
 use Rattle.std.proofs.Common.{get_or, refl, sym, ◌∙◌, arith}
 use Rattle.ir_program.specs.declared.program.Span.{Span}
-use Rattle.plan_report.proofs.Spans.{no_span, among, inside, declared_at}
+use Rattle.plan_graph.proofs.Windows.{no_span}
+use Rattle.plan_report.proofs.Spans.{among, inside, declared_at}
 use Rattle.plan_report.proofs.undeclared.behind.Goals as goal
 
 pub returns-then-has-clause-within : goal.returns-then-has-clause-within
