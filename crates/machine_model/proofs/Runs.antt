@@ -1,13 +1,15 @@
 -- Runs of the machine under any test of permission.
-use Rattle.std.proofs.Common.{◌≡◌, ℕ, ◌+◌, List, [], ◌++◌, Some, None, ap, ◌∙◌, append-nil}
+use Rattle.std.proofs.Common.{◌≡◌, ℕ, zero, suc, ◌+◌, List, [], ◌++◌, Some, None, ap, ◌∙◌, append-nil}
 use Rattle.base_words.specs.Runs.{run, events}
 use Rattle.base_words.proofs.Runs.{run-add, events-add, run_still, events_still}
 use Rattle.machine_devices.specs.declared.image.Image.{Image}
+use Rattle.machine_devices.specs.Rules.{ObeysRules}
 use Rattle.machine_model.specs.declared.state.End.{End}
 use Rattle.machine_model.specs.State.{State, PermissionTest, by_mpu, calm}
 use Rattle.machine_model.specs.Step.{turn, running, step, event}
 use Rattle.machine_model.specs.Run.{start, after, events_after}
 use Rattle.machine_model.specs.Code.{next, event_of}
+use Rattle.machine_model.specs.Shape.{StateFits, StepsKeepShape}
 
 -- ---- a machine that has ended
 
@@ -26,6 +28,14 @@ run_ended j i n s e ended = run_still (next j i) n s (next_ended j i s e ended)
 
 pub events_ended : (j : PermissionTest) (i : Image) (n : ℕ) (s : State) (e : End) → s.ending ≡ Some e → events (next j i) (event_of j i) n s ≡ []
 events_ended j i n s e ended = events_still (next j i) (event_of j i) n s (next_ended j i s e ended) (told_ended j i s e ended)
+
+-- ---- states that fit
+
+-- steps that keep the shape of a state keep it over a run
+pub run_fits : StepsKeepShape → (j : PermissionTest) (i : Image) → ObeysRules i → (k : ℕ) (s : State) → StateFits i s → StateFits i (run (next j i) k s)
+unfolding run
+run_fits keeps j i r zero s h = h
+run_fits keeps j i r (suc k) s h = run_fits keeps j i r k (next j i s) (keeps j i s r h)
 
 -- ---- the machine from its start
 

@@ -41,17 +41,17 @@ use Rattle.machine_model.specs.declared.answers.Verdicts.TheVariants.{AllGood, R
 use Rattle.machine_model.specs.Tests.{verdict, verdicts, and_then}
 use Rattle.machine_model.specs.Exceptions.{push_words, stacked_words, frame_at, frame_of, has_pad, vector, entry_core, entered, call, fault_by, is_frame_open, is_fault_enabled, data_fault, fetch_fault, with_pad, unstacked, leaves, returns, mem_manage, supervisor_call}
 use Rattle.machine_model.specs.Perform.{perform, loaded, stored, after_load, after_store, after_loads, after_stores, word_from, word_to, get_words, put_words, or_usage, exchanged, jumped}
-use Rattle.base_words.specs.Runs.{run}
 use Rattle.machine_protection.specs.Registers.{blank}
 use Rattle.machine_model.specs.Run.{start}
 use Rattle.machine_model.specs.declared.answers.Fetched.{Fetched}
 use Rattle.machine_model.specs.declared.answers.Fetched.TheVariants.{Took, NotAllowed, NotMapped}
-use Rattle.machine_model.specs.Step.{step, turn, fetch, performed, fetched, running}
+use Rattle.machine_model.specs.Step.{turn, fetch, performed, fetched, running}
 use Rattle.machine_model.specs.Shape.{EachWord, CoreFits, StatusFits, StateFits, StepsKeepShape, RunsKeepShape}
 use Rattle.machine_model.proofs.ShapeActs.{ActFits, MaybeFits, act_fits, if_below, set_words, at_fits, stack_fits, with_register_fits, odd_before}
 use Rattle.machine_model.proofs.Frames.{bit_below}
 use Rattle.machine_model.proofs.Fetches.{FetchedFits, fetch_fits}
 use Rattle.machine_model.proofs.Shape.{choose_below, choose_core, read_system_fits, word_fits, with_core_fits, with_ram_fits, write_system_fits}
+use Rattle.machine_model.proofs.Runs.{run_fits}
 
 -- ---- values
 
@@ -427,10 +427,5 @@ start_fits i queues fill q =
       queue_count = q;
     }
 
-run_fits : (i : Image) (n : ℕ) (s : State) → ObeysRules i → StateFits i s → StateFits i (run (step i) n s)
-unfolding run
-run_fits i zero s r h = h
-run_fits i (suc n) s r h = run_fits i n (step i s) r (steps_keep_shape by_mpu i s r h)
-
 pub runs_keep_shape : RunsKeepShape
-runs_keep_shape i queues fill n r q = run_fits i n (start i queues fill) r (start_fits i queues fill q)
+runs_keep_shape i queues fill n r q = run_fits steps_keep_shape by_mpu i r n (start i queues fill) (start_fits i queues fill q)

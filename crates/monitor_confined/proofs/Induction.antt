@@ -9,7 +9,7 @@ use Rattle.machine_model.specs.State.{State, Turn, by_mpu, ends}
 use Rattle.machine_model.specs.Step.{turn, step}
 use Rattle.machine_model.specs.Shape.{StateFits, StepsKeepShape}
 use Rattle.base_laws.specs.Lists.{Each}
-use Rattle.machine_model.proofs.Runs.{turn_ended}
+use Rattle.machine_model.proofs.Runs.{turn_ended, next_ended, run_fits}
 use Rattle.monitor_model.specs.declared.tables.Tables.{Tables}
 use Rattle.monitor_model.specs.Placed.{Placed}
 use Rattle.monitor_model.specs.Regions.{regions_for}
@@ -36,17 +36,9 @@ module _ (laws : RunLaws) (i : Image) (t : Tables) (p : Placed i t) (contract : 
     InHandler : (s from : State) (m : MonitorBlock) (h : Handled i t s from m) → InvariantHolds i t m s → StateFits i from → (k : ℕ) → k < h.count → u ≡ run (step i) k from → Phase u
     Over : (e : End) → HasEndedInHandler u e → Phase u
 
-  step_ended : (u : State) (e : End) → u.ending ≡ Some e → step i u ≡ u
-  step_ended u e q = ap (λ (x : Turn). x.to) (turn_ended by_mpu i u e q)
-
   run_next : (k : ℕ) (s : State) → run (step i) (k + 1) s ≡ step i (run (step i) k s)
   unfolding run
   run_next k s = run-add (step i) k 1 s
-
-  run_fits : (k : ℕ) (s : State) → StateFits i s → StateFits i (run (step i) k s)
-  unfolding run
-  run_fits zero s h = h
-  run_fits (suc k) s h = run_fits k (step i s) (laws.shape by_mpu i s p.rules h)
 
   returned_holds : (s u : State) (m : MonitorBlock) → InvariantHolds i t m s → StateFits i u → (r : HasReturned i t s u m) → InvariantHolds i t r.block u
   returned_holds s u m h fits r = record {
@@ -73,7 +65,7 @@ module _ (laws : RunLaws) (i : Image) (t : Tables) (p : Placed i t) (contract : 
     where
       last : h.count ≡ k → Phase (run (step i) k from)
       last e = subst (λ (n : ℕ). Phase (run (step i) n from)) e
-          (⊎_elim (λ o. Over o.0 o.1) (λ r. InThread r.block (returned_holds s (run (step i) h.count from) m x (run_fits h.count from fits) r)) h.holds)
+          (⊎_elim (λ o. Over o.0 o.1) (λ r. InThread r.block (returned_holds s (run (step i) h.count from) m x (run_fits laws.shape by_mpu i p.rules h.count from fits) r)) h.holds)
 
   entering : (s from : State) (m : MonitorBlock) (d : Handled i t s from m) → InvariantHolds i t m s → StateFits i from → Phase from
   unfolding run
@@ -96,7 +88,7 @@ module _ (laws : RunLaws) (i : Image) (t : Tables) (p : Placed i t) (contract : 
       subst Phase (sym q) (entering s (at_memfault i u s) m (contract.memfault s m u h live f frame) h (subst (λ (x : State). StateFits i x) q (next_fits m s h)))
 
   thread_on : (m : MonitorBlock) (s : State) → InvariantHolds i t m s → (o : Option End) → s.ending ≡ o → Phase (step i s)
-  thread_on m s h (Some e) q = subst Phase (sym (step_ended s e q)) (InThread m h)
+  thread_on m s h (Some e) q = subst Phase (sym (next_ended by_mpu i s e q)) (InThread m h)
   thread_on m s h None q = thread_next m s h q (laws.lead i t m s p h q)
 
   advance : (u : State) → Phase u → Phase (step i u)
@@ -104,7 +96,7 @@ module _ (laws : RunLaws) (i : Image) (t : Tables) (p : Placed i t) (contract : 
   advance u (InHandler s from m h x fits k lt e) =
       let b = behind s from m h x fits (k + 1) (omega (arith, lt)) in
       subst (λ (v : State). Phase (step i v)) (sym e) (subst Phase (run_next k from) b)
-  advance u (Over e q) = subst Phase (sym (step_ended u e q.ending)) (Over e q)
+  advance u (Over e q) = subst Phase (sym (next_ended by_mpu i u e q.ending)) (Over e q)
 
   phases : (first : State) → Phase first → (n : ℕ) → Phase (run (step i) n first)
   unfolding run
@@ -169,7 +161,7 @@ module _ (laws : RunLaws) (i : Image) (t : Tables) (p : Placed i t) (contract : 
     not_over e q le =
         let w : State = run (step i) d.count from in
         let z : n ≡ d.count + (n - d.count) = omega (arith, le) in
-        let same : run (step i) n from ≡ w = ap (λ k. run (step i) k from) z ∙ run-add (step i) d.count (n - d.count) from ∙ run_still (step i) (n - d.count) w (step_ended w e q.ending) in
+        let same : run (step i) n from ≡ w = ap (λ k. run (step i) k from) z ∙ run-add (step i) d.count (n - d.count) from ∙ run_still (step i) (n - d.count) w (next_ended by_mpu i w e q.ending) in
         false≢true (sym thread ∙ ap (λ (x : State). x.protection.handler) same ∙ q.handler)
 
     past : d.count ≤ n → Switches s (run (step i) n from)
@@ -206,7 +198,7 @@ module _ (laws : RunLaws) (i : Image) (t : Tables) (p : Placed i t) (contract : 
     by_step live (Faults u f frame q) = entered_switches (at_memfault i u s) q (contract.memfault s m u h live f frame)
 
     by_ending : (o : Option End) → s.ending ≡ o → Switches s (run (step i) (suc n) s)
-    by_ending (Some e) q = subst (λ (x : State). Switches s x) (sym (run_still (step i) (suc n) s (step_ended s e q))) (inl (refl, refl))
+    by_ending (Some e) q = subst (λ (x : State). Switches s x) (sym (run_still (step i) (suc n) s (next_ended by_mpu i s e q))) (inl (refl, refl))
     by_ending None q = by_step q (laws.lead i t m s p h q)
 
   -- a thread's state of a run is one of the invariant

@@ -8,7 +8,7 @@ use Rattle.machine_devices.specs.declared.image.Image.{Image}
 use Rattle.machine_model.specs.declared.state.End.{End}
 use Rattle.machine_model.specs.State.{State, Turn, by_mpu}
 use Rattle.machine_model.specs.Step.{step, event}
-use Rattle.machine_model.proofs.Runs.{turn_ended}
+use Rattle.machine_model.proofs.Runs.{turn_ended, next_ended}
 use Rattle.monitor_model.specs.declared.tables.Tables.{Tables}
 use Rattle.monitor_model.specs.Placed.{Placed}
 use Rattle.monitor_model.specs.Block.{MonitorBlock}
@@ -17,7 +17,7 @@ use Rattle.monitor_model.specs.MonitorLaw.{MonitorLaw}
 use Rattle.monitor_model.specs.Handlers.{HasEndedInHandler, Handles}
 use Rattle.monitor_model.specs.Confined.{StartUp, HasStarted, AreNext, later}
 use Rattle.monitor_runs.specs.WhoRuns.{IsBack}
-use Rattle.monitor_runs.proofs.Segments.{RunLaws, Rest, InThread, Over, Segment, segment, step_ended}
+use Rattle.monitor_runs.proofs.Segments.{RunLaws, Rest, InThread, Over, Segment, segment}
 
 module _ (laws : RunLaws) (i : Image) (t : Tables) (p : Placed i t) (stub : ℕ) (law : MonitorLaw i t stub) (first : State) where
   abbrev at : ℕ → State
@@ -32,7 +32,7 @@ module _ (laws : RunLaws) (i : Image) (t : Tables) (p : Placed i t) (stub : ℕ)
   pub still : (a n : ℕ) (e : End) → a ≤ n → (at a).ending ≡ Some e → at n ≡ at a
   still a n e le q =
       let z : n ≡ a + (n - a) = omega (arith, le) in
-      ap at z ∙ at_add a (n - a) ∙ run_still (step i) (n - a) (at a) (step_ended laws i t p stub law (at a) e q)
+      ap at z ∙ at_add a (n - a) ∙ run_still (step i) (n - a) (at a) (next_ended by_mpu i (at a) e q)
 
   pub works_in : (a n : ℕ) (m : MonitorBlock) (g : Piece m (at a)) → a < n → n < a + g.count → Handles i t (at a) (at n)
   works_in a n m g lt l =

@@ -12,7 +12,7 @@ use Rattle.machine_model.specs.Step.{step}
 use Rattle.machine_model.specs.Exceptions.{is_thread, frame_at, is_frame_open}
 use Rattle.machine_model.specs.Shape.{StateFits, StepsKeepShape}
 use Rattle.machine_model.specs.ThreadStep.{UnprivilegedStepsAreThreadSteps}
-use Rattle.machine_model.proofs.Runs.{turn_ended}
+use Rattle.machine_model.proofs.Runs.{next_ended, run_fits}
 use Rattle.monitor_model.specs.declared.tables.Tables.{Tables}
 use Rattle.monitor_model.specs.Placed.{Placed}
 use Rattle.monitor_model.specs.Block.{MonitorBlock}
@@ -99,18 +99,13 @@ module _ (laws : RunLaws) (i : Image) (t : Tables) (p : Placed i t) (stub : ℕ)
   rest_by m s u StopsUnaligned memory h fits f x = Over (Stop Unaligned x.0) x.1.ended
   rest_by m s u (Resumes n q r) memory h fits f x = by_status (is_thread (stacked i q r status_place)) m s u n q r h fits (f n q r refl) x
 
-  run_fits : (k : ℕ) (s : State) → StateFits i s → StateFits i (run (step i) k s)
-  unfolding run
-  run_fits zero s h = h
-  run_fits (suc k) s h = run_fits k (step i s) (laws.shape by_mpu i s p.rules h)
-
   handled : (m : MonitorBlock) (s from : State) (h : InvariantHolds i t m s) → step i s ≡ from → (most : ℕ) → ((c : ℕ) → c ≤ most → c ≤ 16000) → (o : Outcome) → (l : Leads i t s most from (Shows i t o s m from.ram)) →
       Turns s (run (step i) l.count from) m o → (Shows i t o s m from.ram (run (step i) (suc l.count) s) → Work m s (suc l.count)) → Segment m s
   unfolding run
   handled m s from h to most limit o l turns work =
       let u : State = run (step i) l.count from in
       let there : run (step i) (suc l.count) s ≡ u = ap (λ (x : State). run (step i) l.count x) to in
-      let fits = subst (λ (x : State). StateFits i x) there (run_fits (suc l.count) s h.fits) in
+      let fits = subst (λ (x : State). StateFits i x) there (run_fits laws.shape by_mpu i p.rules (suc l.count) s h.fits) in
       record {
         count = suc l.count;
         some = omega arith;
@@ -156,11 +151,8 @@ module _ (laws : RunLaws) (i : Image) (t : Tables) (p : Placed i t) (stub : ℕ)
       (λ n psp after e on. (fault_change i t s end m from.ram z.cfsr g.0 n psp after e, fault_move laws.frames i t p s end m h z f frame (laws.steps i s (user m s h) live) q n psp after on g.0 g.1 e))
       (λ x. ByFault z g.0 frame q x)
 
-  pub step_ended : (u : State) (e : End) → u.ending ≡ Some e → step i u ≡ u
-  step_ended u e q = ap (λ (x : Turn). x.to) (turn_ended by_mpu i u e q)
-
   by_ending : (m : MonitorBlock) (s : State) (h : InvariantHolds i t m s) → (o : Option End) → s.ending ≡ o → Segment m s
-  by_ending m s h (Some e) q = one m s (subst (λ (x : State). InvariantHolds i t m x) (sym (step_ended s e q)) h)
+  by_ending m s h (Some e) q = one m s (subst (λ (x : State). InvariantHolds i t m x) (sym (next_ended by_mpu i s e q)) h)
   by_ending m s h None q = live_segment m s h q (laws.lead i t m s p h q)
 
   pub segment : (m : MonitorBlock) (s : State) (h : InvariantHolds i t m s) → Segment m s

@@ -3,6 +3,7 @@ use Rattle.std.proofs.Common.{◌≡◌, ℕ, ◌+◌, ◌-◌, ◌*◌, ◌/◌
 use Rattle.base_words.specs.Arithmetic.{word}
 use Rattle.base_words.specs.Bytes.{read, write}
 use Rattle.base_words.proofs.Bytes.{cut_small, read_below, read_above, read_same, read_above_all}
+use Rattle.base_ranges.specs.Ranges.{AreApart}
 use Rattle.machine_devices.specs.declared.image.Image.{Image}
 use Rattle.machine_model.specs.declared.state.CoreRegisters.{CoreRegisters}
 use Rattle.machine_model.specs.declared.state.FaultStatus.{FaultStatus}
@@ -19,7 +20,7 @@ use Rattle.monitor_runs.specs.Moves.{GoesOnAt}
 
 -- so many bytes from an address on are none of the 32 at another
 abbrev pub IsOff : (frame address width : ℕ) → Type 0
-IsOff f a w = (a + w ≤ f) ⊎ (f + 32 ≤ a)
+IsOff f a w = AreApart a w f 32
 
 module _ (laws : FrameLaws) (i : Image) (t : Tables) (p : Placed i t) (s u : State) (m : MonitorBlock) (h : InvariantHolds i t m s) (opened : is_frame_open by_mpu i s ≡ true) (n ret : ℕ) (z : FaultStatus) (small : ret < 2 ^ 32) where
   abbrev psp : ℕ

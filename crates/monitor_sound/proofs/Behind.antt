@@ -9,6 +9,7 @@ use Rattle.machine_model.specs.State.{State, Turn, by_mpu}
 use Rattle.machine_model.specs.Exceptions.{entered, is_thread, flags_of, with_pad}
 use Rattle.machine_model.specs.Shape.{StateFits}
 use Rattle.machine_model.specs.Step.{turn, step, event}
+use Rattle.machine_model.proofs.Runs.{run_fits}
 use Rattle.monitor_model.specs.declared.tables.Tables.{Tables}
 use Rattle.monitor_model.specs.Placed.{Placed}
 use Rattle.monitor_model.specs.Block.{MonitorBlock}
@@ -16,7 +17,7 @@ use Rattle.monitor_model.specs.Handlers.{Leads}
 use Rattle.monitor_model.specs.Invariant.{IsOrderly, InvariantHolds}
 use Rattle.monitor_model.specs.MonitorLaw.{GoesOn, ReturnsBy, Shows}
 use Rattle.monitor_model.specs.Outcomes.{Resumes, stacked, status_place}
-use Rattle.monitor_sound.proofs.ThreadLaws.{ThreadLaws, run_fits}
+use Rattle.monitor_sound.proofs.ThreadLaws.{ThreadLaws}
 
 -- so many steps without an event lead from the thread to where it goes on
 pub record Behind (i : Image) (t : Tables) (s : State) (m : MonitorBlock) (most : ℕ) (b : MonitorBlock) (psp : ℕ) (memory : List ℕ) : Type 0 where
@@ -67,7 +68,7 @@ module _ (laws : ThreadLaws) (i : Image) (t : Tables) (p : Placed i t) (s : Stat
         within = omega (arith, le);
         quiet = silent (entered true i n ret u s).to to (ap (λ (x : Turn). x.event) e) l.count (λ k lt. (l.each k lt).quiet);
         goes = subst (λ (x : State). GoesOn i t s (run (step i) l.count x) m b psp memory) (sym to) g;
-        fits = run_fits laws.shape i p.rules (suc l.count) s h.fits;
+        fits = run_fits laws.shape by_mpu i p.rules (suc l.count) s h.fits;
       }
 
   module _ (most : ℕ) (b : MonitorBlock) (psp : ℕ) (memory : List ℕ) (x : Behind i t s m most b psp memory) where

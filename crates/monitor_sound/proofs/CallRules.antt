@@ -2,6 +2,7 @@
 use Rattle.std.proofs.Common.{◌≡◌, ℕ, suc, ◌+◌, ◌-◌, ◌*◌, ◌/◌, ◌%◌, ◌^◌, ◌<◌, ◌≤◌, ◌⊎◌, inl, inr, true, List, length, get_or, refl, sym, ap, ap₂, ◌∙◌, subst, arith}
 use Rattle.base_words.specs.declared.conditions.Flags.{Flags}
 use Rattle.base_words.specs.Bytes.{read, write_all}
+use Rattle.base_ranges.specs.Ranges.{AreApart}
 use Rattle.machine_protection.specs.declared.region.Access.TheVariants.{Fetch}
 use Rattle.machine_devices.specs.declared.image.Image.{Image}
 use Rattle.machine_bus.proofs.Offsets.{flash_at}
@@ -26,7 +27,7 @@ use Rattle.monitor_model.specs.AccessLaw.{StackHasRoom}
 use Rattle.monitor_confined.proofs.EntryWords.{frame, frame_offset, entered_ram}
 use Rattle.monitor_sound.proofs.ThreadLaws.{ThreadLaws}
 use Rattle.monitor_sound.proofs.Permits.{fetches}
-use Rattle.monitor_sound.proofs.Memory.{Off, read_off_all}
+use Rattle.monitor_sound.proofs.Memory.{read_off_all}
 use Rattle.monitor_sound.proofs.Outcomes.{lends, unlends}
 use Rattle.base_laws.proofs.Multiples.{even_back}
 use Rattle.monitor_sound.proofs.Behind.{Behind, behind, pc_is, sp_is}
@@ -35,7 +36,7 @@ use Rattle.monitor_sound.proofs.Places.{room_of, ram_low}
 use Rattle.monitor_sound.proofs.Resumed.{resumed}
 
 -- the frame of a call lies in the stack below the thread's pointer
-frame_off : (rb st o psp a w : ℕ) → psp + 32 ≡ rb + o → rb ≤ psp → st + 32 ≤ o → (a + w ≤ st) ⊎ (o ≤ a) → Off a w (psp - rb) 32
+frame_off : (rb st o psp a w : ℕ) → psp + 32 ≡ rb + o → rb ≤ psp → st + 32 ≤ o → (a + w ≤ st) ⊎ (o ≤ a) → AreApart a w (psp - rb) 32
 frame_off rb st o psp a w e lo room (inl h) = inl (omega (arith, e, lo, room, h))
 frame_off rb st o psp a w e lo room (inr h) = inr (omega (arith, e, lo, h))
 

@@ -13,7 +13,7 @@ use Rattle.monitor_model.specs.Records.{words_in}
 use Rattle.monitor_model.specs.Promises.{RangesAreApart}
 use Rattle.monitor_model.specs.Starts.{with_words, with_all_words}
 use Rattle.monitor_sound.specs.Simulation.{IsRange}
-use Rattle.monitor_sound.proofs.Memory.{Off, read_off_all}
+use Rattle.monitor_sound.proofs.Memory.{read_off_all}
 use Rattle.machine_model.proofs.StackWords.{length-words_at as length-words}
 
 -- reads of equal bytes
@@ -64,7 +64,7 @@ copied_byte (suc n) o q k mem flash lt long =
     ∙ ap (λ (b : ℕ). get_or flash b 0 % 256) r)
     (cases_lt k 4)
 
-apart_reads : (rb at end at' end' a w n : ℕ) → rb ≤ at → rb ≤ at' → at ≤ rb + a → rb + a + w ≤ end → 4 * n ≤ end' - at' → (at + (end - at) ≤ at') ⊎ (at' + (end' - at') ≤ at) → Off a w (at' - rb) (4 * n)
+apart_reads : (rb at end at' end' a w n : ℕ) → rb ≤ at → rb ≤ at' → at ≤ rb + a → rb + a + w ≤ end → 4 * n ≤ end' - at' → (at + (end - at) ≤ at') ⊎ (at' + (end' - at') ≤ at) → AreApart a w (at' - rb) (4 * n)
 apart_reads rb at end at' end' a w n r r' lo hi le (inl h) = inl (omega (arith, r, r', lo, hi, le, h))
 apart_reads rb at end at' end' a w n r r' lo hi le (inr h) = inr (omega (arith, r, r', lo, hi, le, h))
 
@@ -88,7 +88,7 @@ module _ (i : Image) (t : Tables) where
   others n (k ∷ ks) ram w a r rs apart x =
       others n ks (with_words i k ram) w a r rs.1 apart.1 x
       ∙ read_off_all w a (k.at - i.ram_base) (words_at (words_in k) (k.from - i.flash_base) i.flash) ram
-      (subst (λ (l : ℕ). Off a w (k.at - i.ram_base) (4 * l)) (sym (length-words (words_in k) (k.from - i.flash_base) i.flash))
+      (subst (λ (l : ℕ). AreApart a w (k.at - i.ram_base) (4 * l)) (sym (length-words (words_in k) (k.from - i.flash_base) i.flash))
       (apart_reads i.ram_base n.at n.end k.at k.end a w (words_in k) r.in_ram.0 rs.0.in_ram.0 x.0 x.1 (quarter (k.end - k.at)) apart.0))
 
   -- a range has its words

@@ -6,6 +6,7 @@ use Rattle.base_words.specs.declared.conditions.Flags.{Flags}
 use Rattle.base_words.specs.Bytes.{read, cut, write_all}
 use Rattle.base_words.specs.Runs.{run}
 use Rattle.base_words.proofs.Bytes.{cut_small}
+use Rattle.base_ranges.specs.Ranges.{AreApart}
 use Rattle.machine_protection.specs.declared.region.Access.TheVariants.{Fetch}
 use Rattle.machine_devices.specs.declared.image.Image.{Image}
 use Rattle.machine_devices.specs.Rules.{block_size}
@@ -34,7 +35,7 @@ use Rattle.monitor_confined.proofs.EntryWords.{entered_length, frame, frame_offs
 use Rattle.monitor_sound.specs.Accesses.{StubStands}
 use Rattle.monitor_sound.proofs.ThreadLaws.{ThreadLaws}
 use Rattle.monitor_sound.proofs.Permits.{fetches, top_inside}
-use Rattle.monitor_sound.proofs.Memory.{Off, read_off, read_off_all}
+use Rattle.monitor_sound.proofs.Memory.{read_off, read_off_all}
 use Rattle.monitor_sound.proofs.Frames.{moved}
 use Rattle.monitor_sound.proofs.Outcomes.{enters_at, enters}
 use Rattle.monitor_sound.proofs.Behind.{Behind, pc_is, sp_is, lr_is, low_at}
@@ -250,7 +251,7 @@ module _ (laws : ThreadLaws) (code : MonitorCode) (i : Image) (t : Tables) (p : 
     ram_q : i.ram_base ≤ q
     ram_q = let a = ram_low i t p in let c = lo in omega (arith, a, c)
 
-    off_callee : (w a : ℕ) → (a + w ≤ t.stack.base - i.ram_base) ⊎ (q - i.ram_base ≤ a) → Off a w (nt - 32 - i.ram_base) 32
+    off_callee : (w a : ℕ) → (a + w ≤ t.stack.base - i.ram_base) ⊎ (q - i.ram_base ≤ a) → AreApart a w (nt - 32 - i.ram_base) 32
     off_callee w a (inl k) = inl (under i.ram_base (t.stack.base - i.ram_base) top nt a w top_is (whole_top i t p top (o - 32 - (t.stack.base - i.ram_base)) some tops) k)
     off_callee w a (inr k) = inr (over i.ram_base top nt q a top_is top_below k deep)
       where
@@ -260,7 +261,7 @@ module _ (laws : ThreadLaws) (code : MonitorCode) (i : Image) (t : Tables) (p : 
     moved_off : (w a : ℕ) → (a + w ≤ t.stack.base - i.ram_base) ⊎ (o ≤ a) → read w a (moved_on i q rm) ≡ read w a rm
     moved_off w a k = read_off w a 4 (q - i.ram_base + 4 * 6) (stacked i q rm 6 + 2) rm (inner k)
       where
-        inner : (a + w ≤ t.stack.base - i.ram_base) ⊎ (o ≤ a) → Off a w (q - i.ram_base + 4 * 6) 4
+        inner : (a + w ≤ t.stack.base - i.ram_base) ⊎ (o ≤ a) → AreApart a w (q - i.ram_base + 4 * 6) 4
         inner (inl k) = let c = lo in let d = ram_low i t p in inl (omega (arith, k, c, d))
         inner (inr k) = let c = e32 in let d = ram_q in inr (omega (arith, k, c, d))
 

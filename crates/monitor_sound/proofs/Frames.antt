@@ -2,11 +2,12 @@
 use Rattle.std.proofs.Common.{◌≡◌, ℕ, zero, suc, ◌+◌, ◌-◌, ◌^◌, ◌<◌, ◌≤◌, List, [], ◌∷◌, length, get_or, set, refl, ap, ◌∙◌, arith}
 use Rattle.base_words.specs.Bytes.{write, cut}
 use Rattle.base_words.proofs.Bytes.{cut_small}
+use Rattle.base_ranges.specs.Ranges.{AreApart}
 use Rattle.machine_devices.specs.declared.image.Image.{Image}
 use Rattle.machine_model.specs.declared.state.CoreRegisters.{CoreRegisters}
 use Rattle.machine_model.specs.Stack.{words_at}
 use Rattle.monitor_model.specs.Outcomes.{frame_in, stacked, with_stacked, moved_on}
-use Rattle.monitor_sound.proofs.Memory.{Off, words_off, words_set}
+use Rattle.monitor_sound.proofs.Memory.{words_off, words_set}
 use Rattle.monitor_sound.proofs.Room.{Pushed}
 
 module _ (i : Image) (c : CoreRegisters) (ret psp : ℕ) (memory : List ℕ) where
@@ -20,7 +21,7 @@ module _ (i : Image) (c : CoreRegisters) (ret psp : ℕ) (memory : List ℕ) whe
     status = ap (λ (l : List ℕ). get_or l 7 0) e ∙ x.status;
   }
 
-  pub off_frame : (w a v : ℕ) → Off a w (psp - i.ram_base) 32 → Pushed i c ret psp memory → Pushed i c ret psp (write w a v memory)
+  pub off_frame : (w a v : ℕ) → AreApart a w (psp - i.ram_base) 32 → Pushed i c ret psp memory → Pushed i c ret psp (write w a v memory)
   off_frame w a v h x = same_frame (write w a v memory) (words_off 8 (psp - i.ram_base) w a v memory h) x
 
   -- one word is written

@@ -3,6 +3,7 @@ use Rattle.std.proofs.Common.{◌≡◌, ℕ, zero, suc, ◌+◌, ◌-◌, ◌*�
 use Rattle.base_words.specs.declared.conditions.Flags.{Flags}
 use Rattle.base_words.specs.Bytes.{read, cut}
 use Rattle.base_words.specs.Runs.{run}
+use Rattle.base_ranges.specs.Ranges.{AreApart}
 use Rattle.machine_protection.specs.declared.region.Access.TheVariants.{Fetch}
 use Rattle.machine_devices.specs.declared.image.Image.{Image}
 use Rattle.machine_model.specs.declared.state.End.{End}
@@ -31,7 +32,7 @@ use Rattle.monitor_confined.proofs.EntryWords.{entered_length}
 use Rattle.monitor_sound.specs.Accesses.{StubStands}
 use Rattle.monitor_sound.proofs.ThreadLaws.{ThreadLaws}
 use Rattle.monitor_sound.proofs.Permits.{fetches_tables}
-use Rattle.monitor_sound.proofs.Memory.{Off, read_off, words_set}
+use Rattle.monitor_sound.proofs.Memory.{read_off, words_set}
 use Rattle.monitor_sound.proofs.Outcomes.{leaves, ends}
 use Rattle.monitor_sound.proofs.Behind.{Behind, pc_is, sp_is, low_at}
 use Rattle.monitor_sound.proofs.Room.{Pushed, open_frame, is_svc, svc_turn, stack_places}
@@ -167,7 +168,7 @@ module _ (laws : ThreadLaws) (code : MonitorCode) (i : Image) (t : Tables) (p : 
         read_off w a 4 (e.psp - i.ram_base + 4 * 0) (word i t (code.stub t) n q rm 0) rm (off k.0)
         ∙ reads_off laws code i t p law n x low top lr (code.stub t) f ram queues 1 v r fits stands.lies may w a (lower k.0)
       where
-        off : (a + w ≤ t.stack.base - i.ram_base) ⊎ (o ≤ a) → Off a w (e.psp - i.ram_base + 4 * 0) 4
+        off : (a + w ≤ t.stack.base - i.ram_base) ⊎ (o ≤ a) → AreApart a w (e.psp - i.ram_base + 4 * 0) 4
         off (inl h) = let z = offset in let b = above in let l = low_stack in inl (omega (arith, h, z, b, l))
         off (inr h) = let z = offset in let d = deep in inr (omega (arith, h, z, d))
 

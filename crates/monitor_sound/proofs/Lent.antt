@@ -8,6 +8,7 @@ use Rattle.base_words.specs.Arithmetic.{word}
 use Rattle.base_words.specs.Bytes.{read, write, write_all}
 use Rattle.base_words.specs.Runs.{run}
 use Rattle.base_words.proofs.Bytes.{length-write, read_fits}
+use Rattle.base_ranges.specs.Ranges.{AreApart}
 use Rattle.machine_thumb.specs.declared.table.Instr.{Instr}
 use Rattle.machine_thumb.specs.declared.table.Instr.TheVariants.{TransferImmediate}
 use Rattle.machine_thumb.specs.Table.{encode}
@@ -45,7 +46,7 @@ use Rattle.monitor_confined.proofs.EntryWords.{frame, frame_offset, entered_ram,
 use Rattle.monitor_sound.proofs.ThreadLaws.{ThreadLaws, live_is, performed_at}
 use Rattle.monitor_sound.proofs.Direct.{free_fetch, by_lead}
 use Rattle.monitor_sound.proofs.Permits.{fetches}
-use Rattle.monitor_sound.proofs.Memory.{Off, read_off, read_off_all, write_past}
+use Rattle.monitor_sound.proofs.Memory.{read_off, read_off_all, write_past}
 use Rattle.monitor_sound.proofs.Outcomes.{IsStoreForm, IsLoadForm, IsWidth, IsCovered, store_form, load_form, covered, half_of, stores, loads}
 use Rattle.base_laws.proofs.Multiples.{even_back}
 use Rattle.monitor_sound.proofs.Behind.{Behind, behind, pc_is, sp_is, lr_is, flags_are, on_psp, other_is, low_at, r12_is, holds_again}
@@ -82,7 +83,7 @@ alike_self i t v = record {
 }
 
 -- a range off the stack below a pointer is off the frame there
-off_below : (rb base psp sp a w : ℕ) → rb ≤ base → base ≤ psp → psp + 32 ≡ sp → rb ≤ a → (a + w ≤ base) ⊎ (sp ≤ a) → Off (a - rb) w (psp - rb) 32
+off_below : (rb base psp sp a w : ℕ) → rb ≤ base → base ≤ psp → psp + 32 ≡ sp → rb ≤ a → (a + w ≤ base) ⊎ (sp ≤ a) → AreApart (a - rb) w (psp - rb) 32
 off_below rb base psp sp a w x y z lo (inl h) = inl (omega (arith, x, y, lo, h))
 off_below rb base psp sp a w x y z lo (inr h) = inr (omega (arith, x, y, z, lo, h))
 
@@ -90,7 +91,7 @@ off_words : (rb mon a w : ℕ) → rb ≤ a → rb ≤ mon → (a + w ≤ mon + 
 off_words rb mon a w lo lb (inl h) = inl (omega (arith, lo, lb, h))
 off_words rb mon a w lo lb (inr h) = inr (omega (arith, lo, lb, h))
 
-off_frame_at : (rb psp sp a w : ℕ) → psp + 32 ≡ sp → rb ≤ a → rb ≤ psp → (a + w + 32 ≤ sp) ⊎ (sp ≤ a) → Off (a - rb) w (psp - rb) 32
+off_frame_at : (rb psp sp a w : ℕ) → psp + 32 ≡ sp → rb ≤ a → rb ≤ psp → (a + w + 32 ≤ sp) ⊎ (sp ≤ a) → AreApart (a - rb) w (psp - rb) 32
 off_frame_at rb psp sp a w z lo lp (inl h) = inl (omega (arith, z, lo, lp, h))
 off_frame_at rb psp sp a w z lo lp (inr h) = inr (omega (arith, z, lo, lp, h))
 
@@ -109,7 +110,7 @@ module _ (laws : ThreadLaws) (i : Image) (t : Tables) (p : Placed i t) (m : Moni
     ram_below = let x = (stack_places laws i t p m s h lent.room).0 in let y = from_base laws i t p m s h lent.room in omega (arith, x, y)
 
     alike : (low memory ram : List ℕ) (b : Behind i t s m memfault_steps m psp memory) → Pushed i (record s.core { low = low }) (s.core.pc + 2) psp memory →
-        ((n a : ℕ) → Off a n (psp - i.ram_base) 32 → read n a memory ≡ read n a ram) → length ram ≡ i.ram_size → IsAlike i t (reached s low ram) (run (step i) b.count s)
+        ((n a : ℕ) → AreApart a n (psp - i.ram_base) 32 → read n a memory ≡ read n a ram) → length ram ≡ i.ram_size → IsAlike i t (reached s low ram) (run (step i) b.count s)
     alike low memory ram b words same long =
         let u : State = run (step i) b.count s in
         let room = lent.room in
@@ -138,7 +139,7 @@ module _ (laws : ThreadLaws) (i : Image) (t : Tables) (p : Placed i t) (m : Moni
         }
 
     effect : (low memory ram : List ℕ) (v : State) → v ≡ reached s low ram → (b : Behind i t s m memfault_steps m psp memory) → Pushed i (record s.core { low = low }) (s.core.pc + 2) psp memory →
-        ((n a : ℕ) → Off a n (psp - i.ram_base) 32 → read n a memory ≡ read n a ram) → length ram ≡ i.ram_size → (turn free i s).to ≡ v → HasEffect i t m s
+        ((n a : ℕ) → AreApart a n (psp - i.ram_base) 32 → read n a memory ≡ read n a ram) → length ram ≡ i.ram_size → (turn free i s).to ≡ v → HasEffect i t m s
     effect low memory ram v is b words same long leads =
         let le = b.within in
         record {
@@ -228,7 +229,7 @@ module _ (laws : ThreadLaws) (i : Image) (t : Tables) (p : Placed i t) (m : Moni
       words : Pushed i s.core s.core.pc (psp has w lent) from_ram
       words = pushed laws i t p m s h lent.room mem_manage s.core.pc status h.fits.core.pc_word
 
-      off_access : Off c w (psp has w lent - i.ram_base) 32
+      off_access : AreApart c w (psp has w lent - i.ram_base) 32
       off_access = off_frame_at i.ram_base (psp has w lent) s.core.sp at w (back_up laws i t p m s h lent.room) in_stack.0 (ram_below has w lent) lent.off_frame
 
       long : psp has w lent - i.ram_base + 32 ≤ length from_ram
@@ -254,13 +255,13 @@ module _ (laws : ThreadLaws) (i : Image) (t : Tables) (p : Placed i t) (m : Moni
           omega (arith, a, b, x, y)
 
       -- what RAM has off the frame
-      reads_off : (n a : ℕ) → Off a n (psp has w lent - i.ram_base) 32 → read n a from_ram ≡ read n a s.ram
+      reads_off : (n a : ℕ) → AreApart a n (psp has w lent - i.ram_base) 32 → read n a from_ram ≡ read n a s.ram
       reads_off n a o = ap (λ (r : List ℕ). read n a r) is_pushed ∙ read_off_all n a (psp has w lent - i.ram_base) (frame_of s.core s.core.pc) s.ram o
 
-      moved_off : (memory : List ℕ) (n a : ℕ) → Off a n (psp has w lent - i.ram_base) 32 → read n a (moved_on i (psp has w lent) memory) ≡ read n a memory
+      moved_off : (memory : List ℕ) (n a : ℕ) → AreApart a n (psp has w lent - i.ram_base) 32 → read n a (moved_on i (psp has w lent) memory) ≡ read n a memory
       moved_off memory n a o = read_off n a 4 (psp has w lent - i.ram_base + 24) (stacked i (psp has w lent) memory 6 + 2) memory (inner n a o)
         where
-          inner : (n a : ℕ) → Off a n (psp has w lent - i.ram_base) 32 → Off a n (psp has w lent - i.ram_base + 24) 4
+          inner : (n a : ℕ) → AreApart a n (psp has w lent - i.ram_base) 32 → AreApart a n (psp has w lent - i.ram_base + 24) 4
           inner n a (inl x) = inl (omega (arith, x))
           inner n a (inr x) = inr (omega (arith, x))
 
@@ -400,7 +401,7 @@ module _ (laws : ThreadLaws) (i : Image) (t : Tables) (p : Placed i t) (stub : �
     second true y e = e
     second false y e = absurd (false≢true e)
 
-    inner : (o n b : ℕ) → Off b n o 32 → Off b n (o + 4 * 0) 4
+    inner : (o n b : ℕ) → AreApart b n o 32 → AreApart b n (o + 4 * 0) 4
     inner o n b (inl x) = inl (omega (arith, x))
     inner o n b (inr x) = inr (omega (arith, x))
 

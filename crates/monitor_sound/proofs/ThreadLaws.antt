@@ -5,7 +5,7 @@ use Rattle.base_words.specs.Runs.{run, events}
 use Rattle.machine_thumb.specs.declared.table.Instr.{Instr}
 use Rattle.machine_devices.specs.declared.image.Image.{Image}
 use Rattle.machine_model.specs.declared.state.End.{End}
-use Rattle.machine_model.specs.State.{State, PermissionTest, by_mpu}
+use Rattle.machine_model.specs.State.{State, PermissionTest}
 use Rattle.machine_model.specs.Instructions.{act}
 use Rattle.machine_model.specs.AccessLaw.{AllowedStepsAreFree}
 use Rattle.machine_model.specs.Asked.{DoesAct, StandingActsAreDone}
@@ -13,11 +13,10 @@ use Rattle.machine_model.specs.Code.{size, Stands, live}
 use Rattle.machine_model.specs.Perform.{perform}
 use Rattle.machine_model.specs.Resumed.{TellsThread}
 use Rattle.machine_model.specs.Running.{StepsAreActs}
-use Rattle.machine_model.specs.Shape.{StateFits, StepsKeepShape}
+use Rattle.machine_model.specs.Shape.{StepsKeepShape}
 use Rattle.machine_model.specs.Step.{turn, step, event}
 use Rattle.machine_model.specs.InstructionEffects.{EachWorks, TransferSteps}
 use Rattle.machine_model.specs.ThreadStep.{UnprivilegedStepsAreThreadSteps}
-use Rattle.machine_devices.specs.Rules.{ObeysRules}
 use Rattle.monitor_confined.specs.ThreadSteps.{ThreadStepsLead}
 use Rattle.monitor_confined.specs.WholeRuns.{ChangesKeepOrder}
 use Rattle.monitor_confined.proofs.Reaches.{UnitLaws}
@@ -59,8 +58,3 @@ quiet_events i zero s q = refl
 quiet_events i (suc k) s q =
     let e : event i s ≡ None = q 0 (omega arith) in
     rw e (quiet_events i k (step i s) (λ n lt. q (suc n) (omega (arith, lt))))
-
-pub run_fits : StepsKeepShape → (i : Image) → ObeysRules i → (k : ℕ) (s : State) → StateFits i s → StateFits i (run (step i) k s)
-unfolding run
-run_fits shape i rules zero s h = h
-run_fits shape i rules (suc k) s h = run_fits shape i rules k (step i s) (shape by_mpu i s rules h)
