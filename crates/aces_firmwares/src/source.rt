@@ -25,7 +25,7 @@ use ir_output::{Broken, print_source};
 use ir_program::peripherals::windows;
 use ir_program::program::Program;
 use ir_run::outcome::SourceEnd;
-use plan_firmwares::{Analysis, analyse};
+use plan_firmwares::analyse;
 use plan_model::Policy;
 use std::alloc::{AllocError, Global};
 

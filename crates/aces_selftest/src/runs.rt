@@ -21,7 +21,7 @@ use ir_run::run::SourceRun;
 use machine_devices::image::Image;
 use machine_devices::tape::Tape;
 use machine_emulator::Machine;
-use plan_firmwares::{Analysis, analyse};
+use plan_firmwares::analyse;
 use plan_model::Policy;
 use std::alloc::{AllocError, Global};
 

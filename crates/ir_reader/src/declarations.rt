@@ -19,7 +19,7 @@ use crate::limits::{counted, keep, number_excess};
 use crate::terminals::{behind_mark, behind_word, global_word, mark, name, number, syntax};
 use crate::token::Token;
 use base_lists::ListVec;
-use ir_model::firmware::{Binding, Cell, Global as GlobalDecl, Peripheral, StructDecl};
+use ir_model::firmware::{Cell, Global as GlobalDecl, Peripheral, StructDecl};
 use ir_model::text_limits::{CELL_LIMIT, GLOBAL_LIMIT, PERIPH_LIMIT, STRUCT_LIMIT};
 use ir_model::token::{Keyword, Mark, TextLimit};
 use std::alloc::Global;

@@ -29,7 +29,6 @@ impl Drop for PointsTo {
 }
 
 impl Model for PointsTo {
-    ghost use Rattle.std.specs.Prelude.{List};
     ghost use Rattle.need_sets.specs.Sets.{Sets, AreInOrder};
 
     ghost Value = { Sets };
