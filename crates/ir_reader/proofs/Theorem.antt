@@ -14,7 +14,7 @@ use Rattle.ir_reader.specs.Machine.{Symbol, Go, Stop, To, Stuck, step, fault, mo
 use Rattle.ir_reader.proofs.Lang
 use Rattle.ir_reader.proofs.Lang.{Langs, none, some, at_bottom, takes_arrow, below, well, inner, inner_top, fits, Follows, next, ends, skips}
 use Rattle.ir_reader.proofs.Derive.{follows}
-use Rattle.ir_reader.proofs.Ends.{after}
+use Rattle.ir_reader.proofs.Ends.{fault_after}
 use Rattle.ir_reader.proofs.Values.{stepped}
 
 -- what stands for two rows of symbols
@@ -154,12 +154,12 @@ colon_same [] (m ∷ ms) e = cc
 colon_same (p ∷ ps) [] e = let h : p.found ≡ End = cc in rw h refl
 colon_same (p ∷ ps) (m ∷ ms) e = let h : p.found ≡ Is m.token = cc in rw h refl
 
-pub fault_token : (st : List Symbol) (p : Placed) (ps : List Placed) (t : Token) → p.found ≡ Is t → fault st (p ∷ ps) ≡ after p ps (step st t (colon_first ps))
+pub fault_token : (st : List Symbol) (p : Placed) (ps : List Placed) (t : Token) → p.found ≡ Is t → fault st (p ∷ ps) ≡ fault_after p ps (step st t (colon_first ps))
 fault_token st p ps t h =
-    let P : Found → Type 0 = λ f. fault st (record { found = f; left = p.left } ∷ ps) ≡ after p ps (step st t (colon_first ps)) in
+    let P : Found → Type 0 = λ f. fault st (record { found = f; left = p.left } ∷ ps) ≡ fault_after p ps (step st t (colon_first ps)) in
     subst P (sym h) refl
 
-pub kept : (p : Placed) (ps : List Placed) (e : Option Excess) (stack : List Symbol) → after p ps (To e stack) ≡ None → (e ≡ None) × (fault stack ps ≡ None)
+pub kept : (p : Placed) (ps : List Placed) (e : Option Excess) (stack : List Symbol) → fault_after p ps (To e stack) ≡ None → (e ≡ None) × (fault stack ps ≡ None)
 kept p ps None stack h = (refl, h)
 kept p ps (Some x) stack h = cc
 
@@ -172,7 +172,7 @@ sound_from (p ∷ ps) st w (m ∷ ms) l same e =
     let h : p.found ≡ Is m.token = cc in
     let rest : finds ps ≡ text_of ms = cc in
     let c = colon_same ps ms rest in
-    let goes : fault st (p ∷ ps) ≡ after p ps (To m.excess s.stack) = fault_token st p ps m.token h ∙ (rw c (ap (after p ps) s.goes)) in
+    let goes : fault st (p ∷ ps) ≡ fault_after p ps (To m.excess s.stack) = fault_token st p ps m.token h ∙ (rw c (ap (fault_after p ps) s.goes)) in
     let k = kept p ps m.excess s.stack (sym goes ∙ e) in
     (k.0, sound_from ps s.stack s.well ms s.others rest k.1)
 
@@ -211,5 +211,5 @@ none_from (p ∷ ps) st w (m ∷ ms) l same h =
     let i : p.found ≡ Is m.token = cc in
     let rest : finds ps ≡ text_of ms = cc in
     let c = colon_same ps ms rest in
-    let goes : fault st (p ∷ ps) ≡ after p ps (To m.excess s.stack) = fault_token st p ps m.token i ∙ (rw c (ap (after p ps) s.goes)) in
+    let goes : fault st (p ∷ ps) ≡ fault_after p ps (To m.excess s.stack) = fault_token st p ps m.token i ∙ (rw c (ap (fault_after p ps) s.goes)) in
     goes ∙ (rw (h.0) (none_from ps s.stack s.well ms s.others rest h.1))

@@ -13,7 +13,7 @@ use Rattle.ir_reader.specs.Reading.{ReadsBehind, Fails}
 use Rattle.ir_reader.specs.Lines.{ReadsValue, FailsBy, PassesBy}
 use Rattle.ir_grammar.specs.Spelling.{spell_inst, spell_assigned}
 use Rattle.ir_reader.specs.Spelling.{Key, as_found}
-use Rattle.ir_reader.proofs.Ends.{after}
+use Rattle.ir_reader.proofs.Ends.{fault_after}
 
 abbrev pub stepped : List Symbol → model.Token → Bool → Move → Step
 stepped st t c (Go x more) = To x (more ++ st)
@@ -22,14 +22,14 @@ stepped st t c Skip = step st t c
 
 ok_from : (to : List ℕ) (w : Keyword) (p : Placed) (old new : List Placed) (v : Inst) (c : Bool) (m : Move)
     → PassesBy m (spell_assigned as_found to (Key w ∷ [])) old new v
-    → (spell_assigned as_found to (Key w ∷ finds old) ≡ spell_inst as_found v ++ finds new) × ((st : List Symbol) → after p old (stepped st (model.Key w) c m) ≡ fault st new)
+    → (spell_assigned as_found to (Key w ∷ finds old) ≡ spell_inst as_found v ++ finds new) × ((st : List Symbol) → fault_after p old (stepped st (model.Key w) c m) ≡ fault st new)
 ok_from to w p old new v c (Go None more) h = (h.1.spelled, λ st. h.1.passed st)
 ok_from to w p old new v c (Go (Some e) more) h = let n = h.0 in cc
 ok_from to w p old new v c Stop h = absurd h
 ok_from to w p old new v c Skip h = absurd h
 
 err_from : (w : Keyword) (p : Placed) (old : List Placed) (f : Fault) (c : Bool) (st : List Symbol) (m : Move)
-    → FailsBy m p.left old f st → after p old (stepped st (model.Key w) c m) ≡ Some f
+    → FailsBy m p.left old f st → fault_after p old (stepped st (model.Key w) c m) ≡ Some f
 err_from w p old f c st (Go None more) h = h.1
 err_from w p old f c st (Go (Some e) more) h = let n = h.0 in cc
 err_from w p old f c st Stop h = ap Some (sym h)
