@@ -34,9 +34,8 @@ use Rattle.plan_model.proofs.Powers.{small_block}
 use Rattle.image_promises.proofs.OpenBytes.{words_held}
 use Rattle.image_promises.proofs.Passing.{and_yes, eq_yes, lt_yes, data_yes, must_yes, then_yes, apart_from}
 use Rattle.image_promises.proofs.Ranges.{IsUse, globals_for, filled_for, filled_is, uses_are, block_size_is, block_in, small}
-use Rattle.image_promises.proofs.AreaEnd.{initial_words_are, end_is}
+use Rattle.image_promises.proofs.AreaEnd.{initial_words_are, end_is, has_compartments}
 use Rattle.image_promises.proofs.ReadBack.{ReadLaws}
-use Rattle.image_promises.proofs.TablesPass.{some}
 use Rattle.image_promises.proofs.ObjectSizes.{global_is_large}
 use Rattle.ir_laws.proofs.GlobalShapes.{global_shaped}
 use Rattle.image_promises.proofs.FinalRegions as regions
@@ -192,7 +191,7 @@ module _ (law : ReadLaws) (typing : TypedOverNumbers) (laid : GlobalsAreLaid) (p
   pub begin_is : words_begin p n f l (slots_of b) ≡ initial_words_at t
   unfolding tables_of
   begin_is =
-      let e = end_is law.counts p n f l b (some law typing planned) in
+      let e = end_is law.counts p n f l b (has_compartments typing planned) in
       let c = initial_words_are p n f l b in
       let m = law.counts.words p n f l b in
       omega (arith, e, c, m)

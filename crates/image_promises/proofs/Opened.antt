@@ -3,7 +3,6 @@ use Rattle.std.proofs.Common.{◌≡◌, ℕ, ◌<◌, ◌≤◌, ◌+◌, true,
 use Rattle.std.specs.List.{list_any}
 use Rattle.std.proofs.lemmas.List.{length-map, length-append}
 use Rattle.std.proofs.lemmas.Bool.{or_left, or_right}
-use mathlib.Core.Logic.{⊎_elim}
 use Rattle.machine_protection.specs.declared.region.Region.{Region}
 use Rattle.machine_protection.specs.Regions.{holds}
 use Rattle.machine_protection.specs.Protection.{deciding}
@@ -20,20 +19,18 @@ use Rattle.plan_model.specs.Groups.{compartment_of, writes, reads}
 use Rattle.plan_model.specs.Regions.{region_at, regions_used, is_user, global_size}
 use Rattle.plan_model.specs.RamBlocks.{ForRegion}
 use Rattle.plan_model.specs.InitialGraph.{initial_graph}
-use Rattle.plan_model.specs.Slots.{data_slot, cover_slot, slot_uses, slot_regions, slots_from}
+use Rattle.plan_model.specs.Slots.{data_slot, cover_slot, slot_uses}
 use Rattle.plan_layout_laws.specs.RamLaws.{HoldsAddress}
 use Rattle.need_laws.specs.Reached.{IsListed}
-use Rattle.monitor_model.specs.declared.tables.CompRecord.{CompRecord}
-use Rattle.monitor_model.specs.Records.{compartment_at, nobody}
+use Rattle.monitor_model.specs.Records.{compartment_at}
 use Rattle.monitor_model.specs.Setting.{may_load, may_store, allows_stores}
-use Rattle.image_model.specs.LinkedTables.{tables_of, comp_record}
 use Rattle.image_promises.specs.Planned.{planned_tables, planned_image}
 use Rattle.plan.specs.PlannedFirmwares.{plan, planned_sizes}
 use Rattle.image_promises.proofs.PlannedPremises.{PlannedPremises, final_graph_of}
+use Rattle.image_promises.proofs.PlannedSlots.{slot_limits, slots_at}
 use Rattle.image_promises.proofs.Bearing.{written_stores, borne_holds}
 use Rattle.image_promises.proofs.Compartments.{in_compartment}
 use Rattle.image_promises.proofs.Reach.{one_of, has_listed}
-use Rattle.std.proofs.lemmas.List.FromFn.{get_or-map-range_with_len}
 use Rattle.image_promises.proofs.Lists.{passing_among, each_passing, below_all}
 use Rattle.image_promises.proofs.FinalRegions as regions
 use Rattle.image_promises.proofs.GlobalPlaces.{address, aligns}
@@ -59,21 +56,13 @@ module _ (law : SlotLaws) (planned : PlannedPremises) where
 
   -- ---- a compartment's slots
 
-  pub slots_are : (2 ≤ slots_of b) × (4 + slots_of b ≤ 16)
-  slots_are = ⊎_elim (λ e. (omega (arith, e), omega (arith, e))) (λ e. (omega (arith, e), omega (arith, e))) ok.board.regions
-
   uses_few : (c : ℕ) → c < f.groups.count → length (slot_uses p f l c) ≤ slots_of b
   uses_few c m =
-      let most = law.few p (slots_of b) (initial_graph p n f.groups) f slots_are.0 ok.final c m in
+      let most = law.few p (slots_of b) (initial_graph p n f.groups) f (slot_limits planned).0 ok.final c m in
       let one = length-append (map (data_slot p f l c) (regions_used f.regions c)) (map cover_slot (get_or f.covers c [])) in
       let two = length-map (regions_used f.regions c) (data_slot p f l c) in
       let three = length-map (get_or f.covers c []) cover_slot in
       omega (arith, most, one, two, three)
-
-  pub slots_at : (c : ℕ) → c < f.groups.count → (compartment_at (planned_tables w n f b) c).slots ≡ slots_from 4 (slots_of b) (slot_uses p f l c)
-  unfolding tables_of slot_regions
-  slots_at c m =
-      ap (λ (r : CompRecord). r.slots) (get_or-map-range_with_len (comp_record p f l (slots_of b)) 0 f.groups.count c c nobody m (let e : 0 + c ≡ c = omega arith in e))
 
   -- those of its regions come first
   module _ (c : ℕ) (there : c < f.groups.count) (r : ℕ) (region : r < length f.regions) (a : ℕ) (it : HoldsAddress p f l (ForRegion r) a) where
@@ -88,21 +77,21 @@ module _ (law : SlotLaws) (planned : PlannedPremises) where
     region_stores : has (region_at f.regions r).writers c ≡ true → may_store (planned_tables w n f b) c a ≡ true
     unfolding may_store
     region_stores writer =
-        ap (λ gs. allows_stores (deciding gs a)) (slots_at c there)
+        ap (λ gs. allows_stores (deciding gs a)) (slots_at planned c there)
         ∙ written_stores a (slot_uses p f l c) 4 (slots_of b)
         (written_data law.of_data planned c a r region it writer (regions_used f.regions c) (get_or f.covers c []) used_below
         (used (or_left (has (region_at f.regions r).writers c) (has (region_at f.regions r).readers c) writer)))
-        (uses_few c there) slots_are.1
+        (uses_few c there) (slot_limits planned).1
 
     region_loads : is_user c (region_at f.regions r) ≡ true → may_load (planned_image w n f b) (planned_tables w n f b) c a ≡ true
     unfolding may_load
     region_loads user =
         or_right _ _
         (or_left (list_any (λ (g : Region). holds g a) (compartment_at (planned_tables w n f b) c).slots) _
-        (ap (list_any (λ (g : Region). holds g a)) (slots_at c there)
+        (ap (list_any (λ (g : Region). holds g a)) (slots_at planned c there)
         ∙ borne_holds a (slot_uses p f l c) 4 (slots_of b)
         (borne_data law.of_data planned c a r region it (regions_used f.regions c) (get_or f.covers c []) (used user))
-        (uses_few c there) slots_are.1))
+        (uses_few c there) (slot_limits planned).1))
 
   -- ---- a function's needs
 

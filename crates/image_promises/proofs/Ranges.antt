@@ -77,7 +77,8 @@ abbrev pub AllDiffer : List RamUse → Type 0
 AllDiffer [] = Unit {0}
 AllDiffer (u ∷ us) = Each (λ v. u ≢ v) us × AllDiffer us
 
-abbrev number_of : RamUse → ℕ
+-- the number of the data region that a block is for, or 0
+abbrev pub number_of : RamUse → ℕ
 number_of (ForRegion r) = r
 number_of _ = 0
 
