@@ -26,14 +26,14 @@ use Rattle.monitor_model.specs.Records.{compartment_at}
 use Rattle.monitor_model.specs.Setting.{may_load, may_store, allows_stores}
 use Rattle.image_promises.specs.Planned.{planned_tables, planned_image}
 use Rattle.plan.specs.PlannedFirmwares.{plan, planned_sizes}
-use Rattle.image_promises.proofs.PlannedPremises.{PlannedPremises, final_graph_of}
+use Rattle.image_promises.proofs.PlannedPremises.{PlannedPremises, final_graph_of, global_address_of}
 use Rattle.image_promises.proofs.PlannedSlots.{slot_limits, slots_at}
 use Rattle.image_promises.proofs.Bearing.{written_stores, borne_holds}
 use Rattle.image_promises.proofs.Compartments.{in_compartment}
 use Rattle.image_promises.proofs.Reach.{one_of, has_listed}
 use Rattle.image_promises.proofs.Lists.{passing_among, each_passing, below_all}
 use Rattle.image_promises.proofs.FinalRegions as regions
-use Rattle.image_promises.proofs.GlobalPlaces.{address, aligns}
+use Rattle.image_promises.proofs.GlobalPlaces.{aligns}
 use Rattle.image_promises.proofs.DataSlots.{DataLaws, written_data, borne_data}
 use Rattle.image_promises.proofs.WindowsOpen.{FitsSlots}
 
@@ -50,9 +50,6 @@ module _ (law : SlotLaws) (planned : PlannedPremises) where
 
   abbrev l : Plan
   l = plan w n f b
-
-  abbrev place : ℕ → ℕ
-  place x = address law.of_data.globals planned x
 
   -- ---- a compartment's slots
 
@@ -95,25 +92,25 @@ module _ (law : SlotLaws) (planned : PlannedPremises) where
 
   -- ---- a function's needs
 
-  held_at : (x j r : ℕ) → j < global_size p x → r < length f.regions → has (region_at f.regions r).globals x ≡ true → HoldsAddress p f l (ForRegion r) (place x + j)
+  held_at : (x j r : ℕ) → j < global_size p x → r < length f.regions → has (region_at f.regions r).globals x ≡ true → HoldsAddress p f l (ForRegion r) (global_address_of planned x + j)
   held_at x j r k h i = (law.of_data.globals.held p f (planned_sizes w n f b) b ok.board ok.fits (aligns law.of_data.globals planned) x j k).0 r (regions.region_is (final_graph_of planned) r x h i)
 
   pub stores : (g x j : ℕ) → g < length p.funcs → IsListed (need_of n g).written (GlobalObject x) → x < length p.globals → j < global_size p x
-      → may_store (planned_tables w n f b) (compartment_of f.groups g) (place x + j) ≡ true
+      → may_store (planned_tables w n f b) (compartment_of f.groups g) (global_address_of planned x + j) ≡ true
   stores g x j m listed there k =
       let c = compartment_of f.groups g in
       let inn = in_compartment p f.groups ok.groups g m in
       let writer : writes n f.groups c (Global x) ≡ true = one_of f.groups (λ y. has_object (need_of n y).written (Global x)) g inn.listed (has_listed (need_of n g).written (GlobalObject x) listed) in
       let some = regions.in_region (final_graph_of planned) x there (regions.written_used (final_graph_of planned) x c inn.below writer) in
-      region_stores c inn.below some.0 some.1 (place x + j) (held_at x j some.0 k some.1 some.2) (regions.writers (final_graph_of planned) x c inn.below writer some.0 some.1 some.2)
+      region_stores c inn.below some.0 some.1 (global_address_of planned x + j) (held_at x j some.0 k some.1 some.2) (regions.writers (final_graph_of planned) x c inn.below writer some.0 some.1 some.2)
 
   pub closed_loads : b.closed ≡ true → (g x j : ℕ) → g < length p.funcs → IsListed (need_of n g).read (GlobalObject x) → x < length p.globals → j < global_size p x
-      → may_load (planned_image w n f b) (planned_tables w n f b) (compartment_of f.groups g) (place x + j) ≡ true
+      → may_load (planned_image w n f b) (planned_tables w n f b) (compartment_of f.groups g) (global_address_of planned x + j) ≡ true
   closed_loads closed g x j m listed there k =
       let c = compartment_of f.groups g in
       let inn = in_compartment p f.groups ok.groups g m in
       let kind : n.closed ≡ true = ok.needs.kind ∙ closed in
       let reader : reads n f.groups c (Global x) ≡ true = one_of f.groups (λ y. has_object (need_of n y).read (Global x)) g inn.listed (has_listed (need_of n g).read (GlobalObject x) listed) in
       let some = regions.in_region (final_graph_of planned) x there (regions.read_used (final_graph_of planned) x c kind inn.below reader) in
-      region_loads c inn.below some.0 some.1 (place x + j) (held_at x j some.0 k some.1 some.2)
+      region_loads c inn.below some.0 some.1 (global_address_of planned x + j) (held_at x j some.0 k some.1 some.2)
       (or_right (has (region_at f.regions some.0).writers c) (has (region_at f.regions some.0).readers c) (regions.readers (final_graph_of planned) x c kind inn.below reader some.0 some.1 some.2))

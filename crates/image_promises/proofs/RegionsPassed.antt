@@ -31,7 +31,7 @@ use Rattle.image_promises.specs.Planned.{planned_tables, planned_image}
 use Rattle.plan.specs.PlannedFirmwares.{planned_sizes, plan}
 use Rattle.image_promises.proofs.PlannedPremises.{PlannedPremises, planned_of, final_graph_of}
 use Rattle.image_promises.proofs.PlannedSlots.{slot_limits}
-use Rattle.image_promises.proofs.Facts.{PlanLaws, laid, length_is, needed_most, code_blocks_count, code_block_is, code_at_most}
+use Rattle.image_promises.proofs.Facts.{PlanLaws, laid, length_is, needed_most, code_blocks_count, code_block_is, code_at_most, flash_first}
 use Rattle.image_promises.proofs.FlashParts.{code_count, code_size_is, code_ends}
 use Rattle.image_promises.proofs.Passing.{and_yes, lt_yes, eq_yes, inside_yes, each_yes}
 use Rattle.image_promises.proofs.Bearing.{use_region}
@@ -104,10 +104,6 @@ module _ (law : PlanLaws) (apart : WindowsLieApart) (planned : PlannedPremises) 
   unfolding linked
   closed_is = sym is.needs.kind
 
-  flash_first : i.flash_base ≡ b.flash_base
-  unfolding linked
-  flash_first = refl
-
   -- the code of a compartment
   code_passes : (c : ℕ) → c < f.groups.count → is_code i (code_region l c) ≡ true
   code_passes c lt =
@@ -124,7 +120,7 @@ module _ (law : PlanLaws) (apart : WindowsLieApart) (planned : PlannedPremises) 
       let listed : c < length l.code = omega (arith, there, count) in
       let low = (flash.inside c listed).0 in
       let high = code_ends p f s b c there in
-      let first = flash_first in
+      let first = flash_first planned in
       let long = length_is law planned in
       let made = is_made 2 spot.base spot.size 0 Code (lit< tt) power (flash.aligned c listed) (lit< tt) in
       and_yes made.has
