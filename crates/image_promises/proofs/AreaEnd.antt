@@ -4,6 +4,8 @@ use Rattle.std.specs.List.{range_with_len}
 use Rattle.std.proofs.lemmas.List.Sums.{sum_by-cons}
 use Rattle.machine_model.specs.Stack.{words_at}
 use Rattle.ir_model.specs.Resolved.{Program}
+use Rattle.ir_model.specs.Resolve.{resolve}
+use Rattle.ir_laws.specs.Typed.{TypedOverNumbers}
 use Rattle.plan_model.specs.declared.needs.Needs.{Needs}
 use Rattle.plan_model.specs.declared.groups.Groups.{Groups}
 use Rattle.plan_model.specs.declared.graph.Final.{Final}
@@ -19,6 +21,7 @@ use Rattle.monitor_model.specs.Layout.{initial_word_count, area_end}
 use Rattle.image_model.specs.Laws.{CountsAgree}
 use Rattle.image_model.specs.FirstWords.{first_bytes, first_words}
 use Rattle.image_model.specs.LinkedTables.{Filled, object_places, comp_record, init_records, words_of, words_begin, filled, tables_of}
+use Rattle.image_promises.proofs.PlannedPremises.{PlannedPremises}
 use Rattle.image_promises.proofs.AreaSize.{slot_count}
 use Rattle.machine_model.proofs.StackWords.{length-words_at as word_count}
 
@@ -30,6 +33,13 @@ some_compartment p g h some = let e = ap (λ (x : Groups). x.count) h.are in let
     used : (ns : List ℕ) → 0 < length ns → 0 < length (used_groups ns)
     used [] lt = absurd (omega (arith, lt))
     used (x ∷ xs) lt = omega arith
+
+-- a planned firmware has a compartment
+pub has_compartments : TypedOverNumbers → (planned : PlannedPremises) → 0 < planned.final.groups.count
+has_compartments typing planned =
+    let ok = planned.is_planned in
+    let m = (typing planned.firmware ok.typed ok.within).main in
+    some_compartment (resolve planned.firmware) planned.final.groups ok.groups (omega (arith, m))
 
 pub slots_are : (p : Program) (n : Needs) (f : Final) (l : Plan) (b : Board) → 0 < f.groups.count → number_of_slots (tables_of p n f l b) ≡ slots_of b
 unfolding tables_of

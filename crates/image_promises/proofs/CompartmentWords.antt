@@ -1,6 +1,5 @@
 -- The words of compartments: of their regions and of their masks.
-use Rattle.std.proofs.Common.{ℕ, ◌+◌, ◌^◌, ◌<◌, ◌≤◌, Bool, true, false, [], ◌∷◌, ◌++◌, length, map, get_or, cond, flat_map, nat_lt, sym, subst, lit<, arith}
-use mathlib.Core.Logic.{⊎_elim}
+use Rattle.std.proofs.Common.{ℕ, ◌+◌, ◌^◌, ◌<◌, Bool, true, false, [], ◌∷◌, ◌++◌, length, map, get_or, cond, flat_map, nat_lt, sym, subst, lit<, arith}
 use Rattle.base_laws.specs.Lists.{Each}
 use Rattle.machine_protection.specs.declared.words.Rights.TheVariants.{Code}
 use Rattle.ir_model.specs.Resolve.{resolve}
@@ -24,6 +23,7 @@ use Rattle.image_promises.specs.Planned.{planned_tables}
 use Rattle.plan.specs.PlannedFirmwares.{plan, planned_sizes}
 use Rattle.image_promises.proofs.FinalGraphs.{FinalGraph}
 use Rattle.image_promises.proofs.PlannedPremises.{PlannedPremises, final_graph_of}
+use Rattle.image_promises.proofs.PlannedSlots.{slot_limits}
 use Rattle.image_promises.proofs.Facts.{PlanLaws, laid, code_blocks_count}
 use Rattle.image_promises.proofs.FlashParts.{code_count}
 use Rattle.image_promises.proofs.Ranges.{block_in}
@@ -98,14 +98,11 @@ module _ (law : PlanLaws) (apart : WindowsLieApart) (planned : PlannedPremises) 
       (each_filter (λ r. r < length f.regions) (λ r. is_user c (region_at f.regions r)) (numbers_below (length f.regions)) (below_all 0 (length f.regions) (length f.regions) (omega arith))))
       (covers_low (final_graph_of planned) (apart w ok.typed) c)
 
-  slots_few : 4 + slots_of b ≤ 16
-  slots_few = ⊎_elim (λ e. omega (arith, e)) (λ e. omega (arith, e)) ok.board.regions
-
   comp_fits : (c : ℕ) → c < f.groups.count → AreWords (compartment_words (comp_record p f l (slots_of b) c))
   unfolding slot_regions
   comp_fits c lt =
       both_words (region_words (code_region l c)) (flat_map region_words (slot_regions p f l (slots_of b) c) ++ lend_mask f c ∷ read_mask f c ∷ []) (code_fits c lt)
-      (both_words (flat_map region_words (slot_regions p f l (slots_of b) c)) (lend_mask f c ∷ read_mask f c ∷ []) (slots_fit 4 (slots_of b) (slot_uses p f l c) slots_few (uses_low c))
+      (both_words (flat_map region_words (slot_regions p f l (slots_of b) c)) (lend_mask f c ∷ read_mask f c ∷ []) (slots_fit 4 (slots_of b) (slot_uses p f l c) (slot_limits planned).1 (uses_low c))
       (mask_is_word (final_graph_of planned) (apart w ok.typed) c lt, (reads_is_word (final_graph_of planned) (apart w ok.typed) c lt, tt)))
 
   pub comps_fit : AreWords (flat_map compartment_words (planned_tables w n f b).comps)

@@ -8,10 +8,11 @@ use Rattle.std.proofs.Math.Pow.{pow_mono}
 use Rattle.std.proofs.lemmas.Bool.{leb-true, ltb-false, cases_eq}
 use Rattle.std.proofs.lemmas.Nat.Bits.{bit_at-zero}
 use mathlib.Core.Logic.{⊎_elim}
+use Rattle.machine_protection.specs.declared.region.Region.{Region}
 use Rattle.machine_protection.specs.declared.region.Access.TheVariants.{Write}
 use Rattle.machine_protection.specs.declared.words.Rights.{Rights}
 use Rattle.machine_protection.specs.declared.words.Rights.TheVariants.{Ram, Background}
-use Rattle.machine_protection.specs.Regions.{holds, allows}
+use Rattle.machine_protection.specs.Regions.{holds, allows, permission}
 use Rattle.machine_protection.specs.RegionWords.{region_of}
 use Rattle.machine_protection.specs.Configured.{closed_from, OpenEighthsAreHeld}
 use Rattle.machine_protection.specs.Laws.{RegionsHoldTheirBlocks, RegionsGiveTheirRights}
@@ -21,6 +22,7 @@ use Rattle.ir_model.specs.Resolved.{Program}
 use Rattle.plan_model.specs.declared.graph.Cover.{Cover}
 use Rattle.plan_model.specs.declared.plan.Plan.{Plan}
 use Rattle.plan_model.specs.declared.plan.Sizes.{Sizes}
+use Rattle.plan_model.specs.declared.plan.Spot.{Spot}
 use Rattle.plan_model.specs.Lists.{has}
 use Rattle.plan_model.specs.Regions.{region_at}
 use Rattle.plan_model.specs.Blocks.{block, has_eighths, open_eighths, subregions_out, region_bytes}
@@ -101,6 +103,10 @@ pub record DataLaws : Type 0 where
   pub opened : OpenEighthsAreHeld
   pub given : RegionsGiveTheirRights
 
+-- a region that holds an address, and in which all may store
+abbrev pub Stores : (address : ℕ) → Region → Type 0
+Stores a g = (holds g a ≡ true) × (permission g ≡ 3)
+
 module _ (laws : DataLaws) (planned : PlannedPremises) where
   open laws use {globals as law, held, opened, given}
   open planned use {firmware as w, needs as n, final as f, board as b}
@@ -131,6 +137,26 @@ module _ (laws : DataLaws) (planned : PlannedPremises) where
       let room = is.1 in
       open_held held opened (data_rights (region_at f.regions r) c) m a (region_spot l r).base (region_spot l r).size (bytes_of r) number (is.0.0, exact) (omega (arith, exact, least)) (omega (arith, size, most))
       (subst (λ z. (region_spot l r).base % z ≡ 0) (sym size) (block_in law.plans planned (ForRegion r) u).1) (omega (arith, size, room))
+
+  -- a data region with a slot in which all may store has the compartment among its writers
+  pub writes_there : (c a r m : ℕ) → Stores a (use_region m (data_slot p f l c r)) → has (region_at f.regions r).writers c ≡ true
+  writes_there c a r m (h, ap_is) = by (has (region_at f.regions r).writers c) refl
+    where
+      spot : Spot
+      spot = region_spot l r
+
+      out : ℕ
+      out = subregions_out spot.size (region_bytes p (region_at f.regions r).globals)
+
+      lets : allows (use_region m (data_slot p f l c r)) true Write ≡ true
+      lets = ap (λ k. nat_eq k 3) ap_is
+
+      by : (t : Bool) → has (region_at f.regions r).writers c ≡ t → has (region_at f.regions r).writers c ≡ true
+      by true e = e
+      by false e =
+          let off = ap (λ t. allows (region_of m spot.base spot.size out (cond t Ram Background)) true Write) e
+          ∙ given m spot.base spot.size out Background (few_bits spot.size (region_bytes p (region_at f.regions r).globals)) true Write in
+          absurd (let wrong : true ≡ false = sym lets ∙ off in cc)
 
   module _ (c a r : ℕ) (there_is : r < length f.regions) (it : HoldsAddress p f l (ForRegion r) a) where
     data_bears : Bears a (data_slot p f l c r)

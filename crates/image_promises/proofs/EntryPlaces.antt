@@ -8,11 +8,10 @@ use Rattle.plan_model.specs.declared.plan.Spot.{Spot}
 use Rattle.plan_model.specs.declared.plan.Plan.{Plan}
 use Rattle.plan_model.specs.declared.plan.Sizes.{Sizes}
 use Rattle.plan_model.specs.Placement.{compartment_spot, no_spot}
-use Rattle.code_model.specs.CompartmentCode.{CodeGroups, CodePlaces, compartment_of, members_from, before, total_size, compartment_size, entry_of}
-use Rattle.code_model.specs.Planned.{code_groups, code_places}
+use Rattle.code_model.specs.CompartmentCode.{CodeGroups, compartment_of, members_from, before, total_size, compartment_size, entry_of}
 use Rattle.monitor_model.specs.MonitorCode.{MonitorCode}
 use Rattle.plan.specs.PlannedFirmwares.{plan, planned_sizes}
-use Rattle.image_promises.proofs.PlannedPremises.{PlannedPremises}
+use Rattle.image_promises.proofs.PlannedPremises.{PlannedPremises, code_groups_of, code_places_of}
 use Rattle.image_promises.proofs.Facts.{laid, code_blocks_count, needed_most}
 use Rattle.image_promises.proofs.FlashParts.{code_count, code_ends}
 use Rattle.image_promises.proofs.ReadBack.{ReadLaws, code_length, code_fits}
@@ -50,12 +49,6 @@ module _ (law : ReadLaws) (placed : CodeIsPlaced) (code : MonitorCode) (planned 
   abbrev l : Plan
   l = plan w n f b
 
-  abbrev groups : CodeGroups
-  groups = code_groups p n f.groups
-
-  abbrev places : CodePlaces
-  places = code_places p n f l
-
   pub is : IsPlaced (linked_build code w n f b)
   is = placed code w n f b ok
 
@@ -63,29 +56,29 @@ module _ (law : ReadLaws) (placed : CodeIsPlaced) (code : MonitorCode) (planned 
   listed : (c : ℕ) → c < f.groups.count → c < length s.code
   listed c h = let m = code_blocks_count law.plans planned in omega (arith, h, m)
 
-  pub base_is : (c : ℕ) → c < f.groups.count → get_or places.bases c 0 ≡ (compartment_spot l c).base
+  pub base_is : (c : ℕ) → c < f.groups.count → get_or (code_places_of planned).bases c 0 ≡ (compartment_spot l c).base
   base_is c h = get_or-map (λ (x : Spot). x.base) l.code c no_spot 0 (let m = listed c h in let e = code_count p f s b in omega (arith, m, e))
 
   pub from_base : (c : ℕ) → c < f.groups.count → b.flash_base ≤ (compartment_spot l c).base
   from_base c h = ((laid law.plans planned).inside c (let m = listed c h in let e = code_count p f s b in omega (arith, m, e))).0
 
-  pub code_room : (c : ℕ) → c < f.groups.count → compartment_size p groups c ≤ (compartment_spot l c).size
+  pub code_room : (c : ℕ) → c < f.groups.count → compartment_size p (code_groups_of planned) c ≤ (compartment_spot l c).size
   code_room c h = let e = code_length law planned c h in let m = code_fits law planned c h in omega (arith, e, m)
 
   pub block_end : (c : ℕ) → c < f.groups.count → (compartment_spot l c).base + (compartment_spot l c).size ≤ b.flash_base + 0x100000
   block_end c h = let e = code_ends p f s b c (listed c h) in let m = needed_most law.plans planned in omega (arith, e, m)
 
   -- each entry is in flash, at a multiple of four
-  pub entry_in : (h : ℕ) → h < length p.funcs → IsCodeAddress b (entry_of p groups places h)
+  pub entry_in : (h : ℕ) → h < length p.funcs → IsCodeAddress b (entry_of p (code_groups_of planned) (code_places_of planned) h)
   entry_in h there =
-      let c : ℕ = compartment_of p groups h in
+      let c : ℕ = compartment_of p (code_groups_of planned) h in
       let in_one : c < f.groups.count = is.each h there in
       let e = base_is c in_one in
       let g = from_base c in_one in
       let room = code_room c in_one in
       let end = block_end c in_one in
-      let t = before_total p groups h in
+      let t = before_total p (code_groups_of planned) h in
       record { from = omega (arith, e, g); to = omega (arith, e, room, end, t) }
 
-  pub entry_aligned : (h : ℕ) → entry_of p groups places h % 4 ≡ 0
-  entry_aligned h = law.code.entries p groups places is.aligned h
+  pub entry_aligned : (h : ℕ) → entry_of p (code_groups_of planned) (code_places_of planned) h % 4 ≡ 0
+  entry_aligned h = law.code.entries p (code_groups_of planned) (code_places_of planned) is.aligned h

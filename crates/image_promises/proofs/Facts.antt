@@ -1,5 +1,5 @@
 -- What is known of the flash and the RAM of a planned image.
-use Rattle.std.proofs.Common.{◌≡◌, ℕ, suc, ◌-◌, ◌<◌, ◌≤◌, ◌∷◌, length, get_or, max, ◌∙◌, lit<, arith}
+use Rattle.std.proofs.Common.{◌≡◌, ℕ, suc, ◌-◌, ◌<◌, ◌≤◌, ◌∷◌, length, get_or, max, ◌∙◌, lit<, arith, refl}
 use Rattle.std.proofs.lemmas.List.{get_or-map, length-replicate}
 use Rattle.std.proofs.lemmas.List.FromFn.{length-map-range_with_len}
 use Rattle.std.proofs.Math.Pow.{pow_mono}
@@ -39,6 +39,11 @@ pub record PlanLaws : Type 0 where
   pub apart : RamIsApart
   pub there : RamIsThere
   pub inside : RamIsInside
+
+-- the flash of a planned image begins where its board's does
+pub flash_first : (planned : PlannedPremises) → (planned_image planned.firmware planned.needs planned.final planned.board).flash_base ≡ planned.board.flash_base
+unfolding linked
+flash_first planned = refl
 
 module _ (law : PlanLaws) (planned : PlannedPremises) where
   open planned use {firmware as w, needs as n, final as f, board as b, is_planned as ok}

@@ -16,13 +16,13 @@ use Rattle.refine.specs.Areas.{Area, Beside, Laid}
 use Rattle.base_laws.specs.Lists.{Each}
 use Rattle.refine.specs.Relation.{cells_at, objects_at}
 use Rattle.plan.specs.PlannedFirmwares.{plan}
-use Rattle.image_promises.proofs.PlannedPremises.{PlannedPremises}
+use Rattle.image_promises.proofs.PlannedPremises.{PlannedPremises, global_address_of}
 use Rattle.image_promises.proofs.Facts.{stack_in, stack_size_is, stack_least, monitor_in, monitor_size_is}
 use Rattle.image_promises.proofs.Passing.{apart_from}
 use Rattle.base_laws.proofs.Multiples.{IsMultiple, through, both, no_rest}
 use Rattle.ir_laws.proofs.Aligned.{Aligned, none, more}
 use Rattle.ir_laws.proofs.GlobalShapes.{global_shaped}
-use Rattle.image_promises.proofs.GlobalPlaces.{GlobalLaws, address, in_ram, aligned_at, apart, off_stack, off_monitor}
+use Rattle.image_promises.proofs.GlobalPlaces.{GlobalLaws, in_ram, aligned_at, apart, off_stack, off_monitor}
 use Rattle.base_laws.proofs.Lists.{each_to}
 use Rattle.image_promises.proofs.Objects.{IsIn, cells_inside, cells_laid, each_object, objects_laid}
 
@@ -47,17 +47,14 @@ module _ (law : GlobalLaws) (planned : PlannedPremises) where
   abbrev count : ℕ
   count = length p.globals
 
-  abbrev place : ℕ → ℕ
-  place x = address law planned x
-
   abbrev addresses : List ℕ
-  addresses = map place (numbers_below count)
+  addresses = map (global_address_of planned) (numbers_below count)
 
   pub count_is : length addresses ≡ count
-  count_is = length-map-range_with_len place 0 count
+  count_is = length-map-range_with_len (global_address_of planned) 0 count
 
-  pub address_is : (x : ℕ) → x < count → get_or addresses x 0 ≡ place x
-  address_is x m = get_or-map-range_with_len place 0 count x x 0 m (let e : 0 + x ≡ x = omega arith in e)
+  pub address_is : (x : ℕ) → x < count → get_or addresses x 0 ≡ global_address_of planned x
+  address_is x m = get_or-map-range_with_len (global_address_of planned) 0 count x x 0 m (let e : 0 + x ≡ x = omega arith in e)
 
   abbrev starts : List ℕ
   starts = map (λ (a : ℕ). a - b.ram_base) addresses
@@ -65,7 +62,7 @@ module _ (law : GlobalLaws) (planned : PlannedPremises) where
   abbrev shapes : List Shape
   shapes = global_shapes p
 
-  start_is : (x : ℕ) → x < count → 0 + get_or starts x 0 ≡ place x - b.ram_base
+  start_is : (x : ℕ) → x < count → 0 + get_or starts x 0 ≡ global_address_of planned x - b.ram_base
   start_is x m =
       let size = count_is in
       let e = get_or-map (λ (a : ℕ). a - b.ram_base) addresses x 0 0 (omega (arith, size, m)) in
@@ -77,10 +74,10 @@ module _ (law : GlobalLaws) (planned : PlannedPremises) where
 
   -- the cells of a global
   abbrev cells : ℕ → List Area
-  cells x = cells_at (place x - b.ram_base) (global_at p x).shape.cells
+  cells x = cells_at (global_address_of planned x - b.ram_base) (global_at p x).shape.cells
 
   cells_are : (x : ℕ) → x < count → cells_at (0 + get_or starts x 0) (get_or shapes x empty).cells ≡ cells x
-  cells_are x m = ap (λ o. cells_at o (get_or shapes x empty).cells) (start_is x m) ∙ ap (λ (h : Shape). cells_at (place x - b.ram_base) h.cells) (shape_is x m)
+  cells_are x m = ap (λ o. cells_at o (get_or shapes x empty).cells) (start_is x m) ∙ ap (λ (h : Shape). cells_at (global_address_of planned x - b.ram_base) h.cells) (shape_is x m)
 
   starts_below : (x : ℕ) → x < length starts → x < count
   starts_below x m = let size = count_is in let same = length-map addresses (λ (a : ℕ). a - b.ram_base) in omega (arith, m, size, same)
@@ -90,16 +87,16 @@ module _ (law : GlobalLaws) (planned : PlannedPremises) where
 
   -- the bytes of a cell are bytes of its global
   pub record IsCell (x : ℕ) (c : Area) : Type 0 where
-    pub low : place x ≤ b.ram_base + c.at
-    pub high : b.ram_base + c.at + c.width ≤ place x + global_size p x
+    pub low : global_address_of planned x ≤ b.ram_base + c.at
+    pub high : b.ram_base + c.at + c.width ≤ global_address_of planned x + global_size p x
     pub some : 0 < c.width
 
   cells_of : (x : ℕ) → x < count → Each (IsCell x) (cells x)
   cells_of x m =
       let ram = (in_ram law planned x m).0 in
-      each_to (IsIn (place x - b.ram_base) (global_size p x)) (IsCell x) (cells x)
+      each_to (IsIn (global_address_of planned x - b.ram_base) (global_size p x)) (IsCell x) (cells x)
       (λ c i. let low = i.low in let high = i.high in record { low = omega (arith, low, ram); high = omega (arith, high, ram); some = i.some })
-      (cells_inside (place x - b.ram_base) (global_size p x) (global_at p x).shape.cells (global_shaped w x).sound.cells)
+      (cells_inside (global_address_of planned x - b.ram_base) (global_size p x) (global_at p x).shape.cells (global_shaped w x).sound.cells)
 
   each_of : (P : Area → Type 0) (x : ℕ) → x < count → ((c : Area) → IsCell x c → P c) → Each P (cells x)
   each_of P x m h = each_to (IsCell x) P (cells x) h (cells_of x m)
@@ -114,8 +111,8 @@ module _ (law : GlobalLaws) (planned : PlannedPremises) where
       each_cell (λ (c : Area). (b.ram_base + c.at) % c.width ≡ 0)
       (λ x m.
       let ram = (in_ram law planned x m).0 in
-      let there : b.ram_base + (place x - b.ram_base) ≡ place x = omega (arith, ram) in
-      cells_aligned b.ram_base (place x - b.ram_base) (global_at p x).shape.align (global_at p x).shape.cells
+      let there : b.ram_base + (global_address_of planned x - b.ram_base) ≡ global_address_of planned x = omega (arith, ram) in
+      cells_aligned b.ram_base (global_address_of planned x - b.ram_base) (global_at p x).shape.align (global_at p x).shape.cells
       (subst (IsMultiple (global_at p x).shape.align) (sym there) (aligned_at law planned x m)) (global_shaped w x).fair.cells)
 
   beside : (x y : ℕ) → x < count → y < count → x ≢ y → (c d : Area) → IsCell x c → IsCell y d → Beside c d
@@ -131,7 +128,7 @@ module _ (law : GlobalLaws) (planned : PlannedPremises) where
   pub all_laid : Laid (objects_at 0 starts shapes)
   all_laid =
       objects_laid starts shapes
-      (λ x i j. let m = starts_below x i in subst Laid (sym (cells_are x m)) (cells_laid (place x - b.ram_base) 0 (global_size p x) (global_at p x).shape.cells (global_shaped w x).sound.cells))
+      (λ x i j. let m = starts_below x i in subst Laid (sym (cells_are x m)) (cells_laid (global_address_of planned x - b.ram_base) 0 (global_size p x) (global_at p x).shape.cells (global_shaped w x).sound.cells))
       (λ x y lt i j.
       let k = starts_below y i in
       let m : x < count = omega (arith, k, lt) in

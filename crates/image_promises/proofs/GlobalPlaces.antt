@@ -16,7 +16,7 @@ use Rattle.plan_layout_laws.specs.RamLaws.{HoldsAddress}
 use Rattle.plan_layout_laws.specs.RamPlaces.{block_for}
 use Rattle.plan_layout_laws.proofs.Offsets.{some_global}
 use Rattle.plan.specs.PlannedFirmwares.{plan, planned_sizes}
-use Rattle.image_promises.proofs.PlannedPremises.{PlannedPremises, final_graph_of}
+use Rattle.image_promises.proofs.PlannedPremises.{PlannedPremises, final_graph_of, global_address_of}
 use Rattle.image_promises.proofs.Facts.{PlanLaws}
 use Rattle.plan_model.proofs.Powers.{small_block}
 use Rattle.base_laws.proofs.Powers.{power_split}
@@ -89,16 +89,13 @@ module _ (law : GlobalLaws) (planned : PlannedPremises) where
   pub aligns : HasAlignments p
   aligns x = (global_shaped w x).sound.aligned
 
-  abbrev pub address : ℕ → ℕ
-  address x = global_address p f l x
-
   -- the block in which a global lies
   pub record IsPlaced (x : ℕ) : Type 0 where
     pub use_of : RamUse
     pub is_use : IsUse f use_of
     pub has_it : has (globals_for f use_of) x ≡ true
-    pub address_is : address x ≡ (block_for l use_of).base + offset_in_region p (globals_for f use_of) x
-    pub holds : (byte : ℕ) → byte < global_size p x → HoldsAddress p f l use_of (address x + byte)
+    pub address_is : global_address_of planned x ≡ (block_for l use_of).base + offset_in_region p (globals_for f use_of) x
+    pub holds : (byte : ℕ) → byte < global_size p x → HoldsAddress p f l use_of (global_address_of planned x + byte)
 
   placed_by : (x : ℕ) → x < count → (o : Option ℕ) → region_with f x ≡ o → IsPlaced x
   unfolding global_address
@@ -125,7 +122,7 @@ module _ (law : GlobalLaws) (planned : PlannedPremises) where
   placed x m = placed_by x m (region_with f x) refl
 
   -- each lies in RAM
-  pub in_ram : (x : ℕ) → x < count → (b.ram_base ≤ address x) × (address x + global_size p x ≤ b.ram_base + b.ram_size)
+  pub in_ram : (x : ℕ) → x < count → (b.ram_base ≤ global_address_of planned x) × (global_address_of planned x + global_size p x ≤ b.ram_base + b.ram_size)
   in_ram x m =
       let i = placed x m in
       let e = i.address_is in
@@ -137,7 +134,7 @@ module _ (law : GlobalLaws) (planned : PlannedPremises) where
       (omega (arith, e, low), omega (arith, e, among, room, high))
 
   -- at a multiple of its alignment
-  pub aligned_at : (x : ℕ) → x < count → IsMultiple (global_at p x).shape.align (address x)
+  pub aligned_at : (x : ℕ) → x < count → IsMultiple (global_at p x).shape.align (global_address_of planned x)
   aligned_at x m =
       let a : ℕ = (global_at p x).shape.align in
       let i = placed x m in
@@ -152,15 +149,15 @@ module _ (law : GlobalLaws) (planned : PlannedPremises) where
 
   -- an address among a global's bytes
   pub record IsByte (x z : ℕ) : Type 0 where
-    pub low : address x ≤ z
-    pub high : z < address x + global_size p x
+    pub low : global_address_of planned x ≤ z
+    pub high : z < global_address_of planned x + global_size p x
 
   pub byte_held : (x : ℕ) (i : IsPlaced x) (z : ℕ) → IsByte x z → HoldsAddress p f l i.use_of z
   byte_held x i z y =
       let low = y.low in
       let high = y.high in
-      let there : address x + (z - address x) ≡ z = omega (arith, low) in
-      subst (HoldsAddress p f l i.use_of) there (i.holds (z - address x) (omega (arith, low, high)))
+      let there : global_address_of planned x + (z - global_address_of planned x) ≡ z = omega (arith, low) in
+      subst (HoldsAddress p f l i.use_of) there (i.holds (z - global_address_of planned x) (omega (arith, low, high)))
 
   -- two share no byte
   pub apart : (x y z : ℕ) → x < count → y < count → x ≢ y → IsByte x z → IsByte y z → ⊥
@@ -175,7 +172,7 @@ module _ (law : GlobalLaws) (planned : PlannedPremises) where
       same : i.use_of ≡ j.use_of → ⊥
       same e =
           let at = i.address_is in
-          let there : address y ≡ (block_for l i.use_of).base + offset_in_region p (globals_for f i.use_of) y = subst (λ u. address y ≡ (block_for l u).base + offset_in_region p (globals_for f u) y) (sym e) j.address_is in
+          let there : global_address_of planned y ≡ (block_for l i.use_of).base + offset_in_region p (globals_for f i.use_of) y = subst (λ u. global_address_of planned y ≡ (block_for l u).base + offset_in_region p (globals_for f u) y) (sym e) j.address_is in
           let has_other : has (globals_for f i.use_of) y ≡ true = subst (λ u. has (globals_for f u) y ≡ true) (sym e) j.has_it in
           let low = one.low in
           let high = one.high in

@@ -20,7 +20,6 @@ use Rattle.plan_model.specs.Lists.{numbers_below, has}
 use Rattle.plan_model.specs.Regions.{global_size}
 use Rattle.plan_model.specs.Blocks.{offset_in_region, region_bytes}
 use Rattle.plan_model.specs.TableSize.{words_in}
-use Rattle.plan_model.specs.Placement.{global_address}
 use Rattle.code_model.specs.declared.places.Places.{Places}
 use Rattle.code_model.specs.Planned.{planned_entry, code_places}
 use Rattle.monitor_model.specs.declared.tables.InitRecord.{InitRecord}
@@ -34,12 +33,12 @@ use Rattle.image_model.specs.Laws.{CountsAgree}
 use Rattle.image_model.specs.FirstWords.{first_word, first_bytes}
 use Rattle.image_model.specs.LinkedTables.{Filled, filled, object_places, words_begin, tables_of}
 use Rattle.image_model.specs.LinkedImage.{linked}
-use Rattle.image_promises.specs.Planned.{planned_tables, planned_image}
+use Rattle.image_promises.specs.Planned.{planned_tables}
 use Rattle.plan.specs.PlannedFirmwares.{plan}
 use Rattle.image_promises.specs.Laws.{FlashReadsBack}
 use Rattle.image_promises.specs.Parts.{linked_build}
 use Rattle.ir_laws.proofs.GlobalShapes.{global_shaped}
-use Rattle.image_promises.proofs.PlannedPremises.{PlannedPremises}
+use Rattle.image_promises.proofs.PlannedPremises.{PlannedPremises, image_flash_of, global_address_of}
 use Rattle.image_promises.proofs.GlobalPlaces.{GlobalLaws, placed, in_ram, aligns}
 use Rattle.image_promises.proofs.FilledBlocks.{is_filled}
 use Rattle.image_promises.proofs.FirstValues.{IsKnown, values_known}
@@ -72,33 +71,27 @@ module _ (law : GlobalLaws) (counts : CountsAgree) (typing : TypedOverNumbers) (
   abbrev k : Build
   k = linked_build code w n f b
 
-  abbrev flash : List ℕ
-  flash = (planned_image w n f b).flash
-
-  abbrev address : ℕ → ℕ
-  address x = global_address p f l x
-
   abbrev count : ℕ
   count = length p.globals
 
   -- ---- the block of a global
 
   abbrev IsBlockOf : ℕ → Filled → Type 0
-  IsBlockOf x c = (has c.globals x ≡ true) × (address x ≡ c.base + offset_in_region p c.globals x)
+  IsBlockOf x c = (has c.globals x ≡ true) × (global_address_of planned x ≡ c.base + offset_in_region p c.globals x)
 
   filled_with : (x : ℕ) → x < count → AnyOf (IsBlockOf x) (filled f l)
   filled_with x lt = let i = placed law planned x lt in is_filled (IsBlockOf x) f l i.use_of i.is_use (i.has_it, i.address_is)
 
-  low : (x : ℕ) → x < count → b.ram_base ≤ address x
+  low : (x : ℕ) → x < count → b.ram_base ≤ global_address_of planned x
   low x lt = (in_ram law planned x lt).0
 
   -- ---- its record
 
   -- a record whose range has so many bytes from an address on, and whose words bring values of cells behind it
   abbrev Brings : (at size : ℕ) → List CellPlace → List Value → InitRecord → Type 0
-  Brings a size cs vs m = (m.at ≤ a) × (a + size ≤ m.end) × HasCells q (m.from - b.flash_base + (a - m.at)) cs vs flash
+  Brings a size cs vs m = (m.at ≤ a) × (a + size ≤ m.end) × HasCells q (m.from - b.flash_base + (a - m.at)) cs vs (image_flash_of planned)
 
-  brings : (x : ℕ) (c : Filled) (m : InitRecord) → IsBlockOf x c → IsBrought p q b.flash_base flash c m → Brings (address x) (global_size p x) (global_at p x).shape.cells (global_at p x).init m
+  brings : (x : ℕ) (c : Filled) (m : InitRecord) → IsBlockOf x c → IsBrought p q b.flash_base (image_flash_of planned) c m → Brings (global_address_of planned x) (global_size p x) (global_at p x).shape.cells (global_at p x).init m
   brings x c m h is =
       let at = is.at in
       let end = is.end in
@@ -111,22 +104,22 @@ module _ (law : GlobalLaws) (counts : CountsAgree) (typing : TypedOverNumbers) (
       let room : off + global_size p x ≤ 4 * words_in p c.globals = omega (arith, among, up, whole) in (
         omega (arith, at, e),
         omega (arith, end, e, room),
-        cells_alike q off (m.from - b.flash_base + (address x - m.at)) 0 (global_size p x) (global_at p x).shape.cells (global_at p x).init (first_bytes p q c.globals) flash (global_shaped w x).sound.cells
-            (λ v a le. (let s : m.from - b.flash_base + (address x - m.at) + a ≡ m.from - b.flash_base + (off + a) = omega (arith, at, e) in
-            ap (λ o. read v o flash) s ∙ reads_back p q b.flash_base flash m.from c.globals is.words v (off + a) (omega (arith, le, room))))
+        cells_alike q off (m.from - b.flash_base + (global_address_of planned x - m.at)) 0 (global_size p x) (global_at p x).shape.cells (global_at p x).init (first_bytes p q c.globals) (image_flash_of planned) (global_shaped w x).sound.cells
+            (λ v a le. (let s : m.from - b.flash_base + (global_address_of planned x - m.at) + a ≡ m.from - b.flash_base + (off + a) = omega (arith, at, e) in
+            ap (λ o. read v o (image_flash_of planned)) s ∙ reads_back p q b.flash_base (image_flash_of planned) m.from c.globals is.words v (off + a) (omega (arith, le, room))))
             (block_holds q p (λ y. (global_shaped w y).sound.cells) c.globals lay x h.0),
       )
 
-  brought_by : (x : ℕ) → x < count → AnyOf (Brings (address x) (global_size p x) (global_at p x).shape.cells (global_at p x).init) t.inits
+  brought_by : (x : ℕ) → x < count → AnyOf (Brings (global_address_of planned x) (global_size p x) (global_at p x).shape.cells (global_at p x).init) t.inits
   unfolding tables_of
   brought_by x lt =
-      brought p q b.flash_base flash (IsBlockOf x) (Brings (address x) (global_size p x) (global_at p x).shape.cells (global_at p x).init) (brings x) (words_begin p n f l (slots_of b)) (filled f l)
+      brought p q b.flash_base (image_flash_of planned) (IsBlockOf x) (Brings (global_address_of planned x) (global_size p x) (global_at p x).shape.cells (global_at p x).init) (brings x) (words_begin p n f l (slots_of b)) (filled f l)
       (from_base law.plans counts back planned) (filled_with x lt) (words_stand law.plans counts back planned)
 
   -- ---- words of values
 
-  address_is : (x : ℕ) → x < count → get_or (map (address) (numbers_below count)) x 0 ≡ address x
-  address_is x lt = get_or-map-range_with_len address 0 count x x 0 lt (let e : 0 + x ≡ x = omega arith in e)
+  address_is : (x : ℕ) → x < count → get_or (map (global_address_of planned) (numbers_below count)) x 0 ≡ global_address_of planned x
+  address_is x lt = get_or-map-range_with_len (global_address_of planned) 0 count x x 0 lt (let e : 0 + x ≡ x = omega arith in e)
 
   entry_is : (h : ℕ) → h < length p.funcs → entry_at k h ≡ get_or (map (planned_entry p n f l) (numbers_below (length p.funcs))) h 0
   unfolding entry_at
@@ -135,8 +128,8 @@ module _ (law : GlobalLaws) (counts : CountsAgree) (typing : TypedOverNumbers) (
   start_is : (x : ℕ) → x < count → b.ram_base + get_or (global_starts k) x 0 ≡ get_or (code_places p n f l).globals x 0
   unfolding global_starts linked
   start_is x lt =
-      let long = length-map-range_with_len address 0 count in
-      let m = get_or-map (λ (a : ℕ). a - b.ram_base) (map address (numbers_below count)) x 0 0 (omega (arith, long, lt)) in
+      let long = length-map-range_with_len (global_address_of planned) 0 count in
+      let m = get_or-map (λ (a : ℕ). a - b.ram_base) (map (global_address_of planned) (numbers_below count)) x 0 0 (omega (arith, long, lt)) in
       let e = address_is x lt in
       let z = low x lt in
       omega (arith, m, e, z)
@@ -161,14 +154,14 @@ module _ (law : GlobalLaws) (counts : CountsAgree) (typing : TypedOverNumbers) (
   cells_in places a s from size (c ∷ cs) (v ∷ vs) more ws e len lay known any rest = (
     any_weaker (Brings a size (c ∷ cs) (v ∷ vs))
         (λ (m : InitRecord). (m.at ≤ b.ram_base + (s + c.at)) × (b.ram_base + (s + c.at) + width_of c.ty ≤ m.end)
-        × (read (width_of c.ty) (m.from - b.flash_base + (b.ram_base + (s + c.at) - m.at)) flash ≡ cut (width_of c.ty) (word_of k places v)))
+        × (read (width_of c.ty) (m.from - b.flash_base + (b.ram_base + (s + c.at) - m.at)) (image_flash_of planned) ≡ cut (width_of c.ty) (word_of k places v)))
         one t.inits any,
     cells_in places a s (c.at + width_of c.ty) size cs vs more ws e (omega (arith, len)) lay.1 known.1
         (any_weaker (Brings a size (c ∷ cs) (v ∷ vs)) (Brings a size cs vs) (λ m h. (h.0, h.1, h.2.1)) t.inits any) rest,
   )
     where
       one : (m : InitRecord) → Brings a size (c ∷ cs) (v ∷ vs) m → (m.at ≤ b.ram_base + (s + c.at)) × (b.ram_base + (s + c.at) + width_of c.ty ≤ m.end)
-          × (read (width_of c.ty) (m.from - b.flash_base + (b.ram_base + (s + c.at) - m.at)) flash ≡ cut (width_of c.ty) (word_of k places v))
+          × (read (width_of c.ty) (m.from - b.flash_base + (b.ram_base + (s + c.at) - m.at)) (image_flash_of planned) ≡ cut (width_of c.ty) (word_of k places v))
       one m h =
           let from_at = h.0 in
           let to_end = h.1 in
@@ -176,7 +169,7 @@ module _ (law : GlobalLaws) (counts : CountsAgree) (typing : TypedOverNumbers) (
           let z : m.from - b.flash_base + (b.ram_base + (s + c.at) - m.at) ≡ m.from - b.flash_base + (a - m.at) + c.at = omega (arith, e, from_at) in (
             omega (arith, e, from_at),
             omega (arith, e, to_end, ends),
-            ap (λ o. read (width_of c.ty) o flash) z ∙ (h.2.0 ∙ ap (cut (width_of c.ty)) (sym (word_is places v known.0))),
+            ap (λ o. read (width_of c.ty) o (image_flash_of planned)) z ∙ (h.2.0 ∙ ap (cut (width_of c.ty)) (sym (word_is places v known.0))),
           )
 
   -- what is known of a global at an address
@@ -187,17 +180,17 @@ module _ (law : GlobalLaws) (counts : CountsAgree) (typing : TypedOverNumbers) (
     known : Each (IsKnown p) g.init
     has_record : AnyOf (Brings a g.shape.size g.shape.cells g.init) t.inits
 
-  globals_in : (places : ℕ → ℕ) (x : ℕ) (gs : List NumberedGlobal) → ((j : ℕ) → j < length gs → Begins (address (x + j)) (get_or gs j no_global))
-      → InFlash k (objects_at 0 (map (λ (a : ℕ). a - b.ram_base) (map address (range_with_len x (length gs)))) (map (λ (g : NumberedGlobal). g.shape) gs)) (object_words k places (map (λ (g : NumberedGlobal). g.init) gs))
+  globals_in : (places : ℕ → ℕ) (x : ℕ) (gs : List NumberedGlobal) → ((j : ℕ) → j < length gs → Begins (global_address_of planned (x + j)) (get_or gs j no_global))
+      → InFlash k (objects_at 0 (map (λ (a : ℕ). a - b.ram_base) (map (global_address_of planned) (range_with_len x (length gs)))) (map (λ (g : NumberedGlobal). g.shape) gs)) (object_words k places (map (λ (g : NumberedGlobal). g.init) gs))
   globals_in places x [] h = tt
   globals_in places x (g ∷ gs) h =
       let s : x + 0 ≡ x = omega arith in
-      let one = subst (λ y. Begins (address y) g) s (h 0 (omega arith)) in
+      let one = subst (λ y. Begins (global_address_of planned y) g) s (h 0 (omega arith)) in
       let z = one.from_ram in
-      cells_in places (address x) (0 + (address x - b.ram_base)) 0 g.shape.size g.shape.cells g.init _ _ (omega (arith, z)) one.as_many one.lies one.known one.has_record
-      (globals_in places (x + 1) gs (λ j lt. subst (λ y. Begins (address y) (get_or gs j no_global)) (let e : x + suc j ≡ x + 1 + j = omega arith in e) (h (suc j) (omega (arith, lt)))))
+      cells_in places (global_address_of planned x) (0 + (global_address_of planned x - b.ram_base)) 0 g.shape.size g.shape.cells g.init _ _ (omega (arith, z)) one.as_many one.lies one.known one.has_record
+      (globals_in places (x + 1) gs (λ j lt. subst (λ y. Begins (global_address_of planned y) (get_or gs j no_global)) (let e : x + suc j ≡ x + 1 + j = omega arith in e) (h (suc j) (omega (arith, lt)))))
 
-  each_begins : (x : ℕ) → x < count → Begins (address x) (global_at p x)
+  each_begins : (x : ℕ) → x < count → Begins (global_address_of planned x) (global_at p x)
   each_begins x lt =
       let typed = typing w ok.typed ok.within in
       record {
@@ -210,4 +203,4 @@ module _ (law : GlobalLaws) (counts : CountsAgree) (typing : TypedOverNumbers) (
 
   pub globals_begin : (places : ℕ → ℕ) → InFlash k (global_areas k) (object_words k places (map (λ (g : NumberedGlobal). g.init) p.globals))
   unfolding global_starts linked
-  globals_begin places = globals_in places 0 p.globals (λ j lt. (let e : j ≡ 0 + j = omega arith in subst (λ y. Begins (address y) (get_or p.globals j no_global)) e (each_begins j lt)))
+  globals_begin places = globals_in places 0 p.globals (λ j lt. (let e : j ≡ 0 + j = omega arith in subst (λ y. Begins (global_address_of planned y) (get_or p.globals j no_global)) e (each_begins j lt)))

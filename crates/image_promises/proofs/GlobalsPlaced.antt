@@ -15,8 +15,8 @@ use Rattle.refine.specs.Builds.{global_starts}
 use Rattle.image_promises.specs.Planned.{planned_tables, planned_image}
 use Rattle.image_promises.specs.Parts.{LoansAreKept}
 use Rattle.image_promises.specs.Globals.{GlobalsArePlaced}
-use Rattle.image_promises.proofs.PlannedPremises.{PlannedPremises, planned_of}
-use Rattle.image_promises.proofs.GlobalPlaces.{address, in_ram}
+use Rattle.image_promises.proofs.PlannedPremises.{PlannedPremises, planned_of, global_address_of}
+use Rattle.image_promises.proofs.GlobalPlaces.{in_ram}
 use Rattle.image_promises.proofs.GlobalAreas.{count_is, address_is, inside, aligned, all_laid, off}
 use Rattle.image_promises.proofs.Opened.{SlotLaws, stores, closed_loads}
 
@@ -26,25 +26,22 @@ module _ (law : SlotLaws) (loans : LoansAreKept) (code : MonitorCode) (planned :
   abbrev p : Program
   p = resolve w
 
-  abbrev place : ℕ → ℕ
-  place x = address law.of_data.globals planned x
-
   -- on an open board all of RAM may be loaded
-  open_loads : b.closed ≡ false → (c x j : ℕ) → x < length p.globals → j < global_size p x → may_load (planned_image w n f b) (planned_tables w n f b) c (place x + j) ≡ true
+  open_loads : b.closed ≡ false → (c x j : ℕ) → x < length p.globals → j < global_size p x → may_load (planned_image w n f b) (planned_tables w n f b) c (global_address_of planned x + j) ≡ true
   unfolding linked
   open_loads kind c x j there k =
       let ram = in_ram law.of_data.globals planned x there in
       let low = ram.0 in
       let high = ram.1 in
-      let same : b.ram_base + (place x + j - b.ram_base) ≡ place x + j = omega (arith, low) in
+      let same : b.ram_base + (global_address_of planned x + j - b.ram_base) ≡ global_address_of planned x + j = omega (arith, low) in
       subst (λ a. may_load (planned_image w n f b) (planned_tables w n f b) c a ≡ true) same
-      ((loans code w n f b ok).open_loads kind c (place x + j - b.ram_base) (omega (arith, low, high, k)))
+      ((loans code w n f b ok).open_loads kind c (global_address_of planned x + j - b.ram_base) (omega (arith, low, high, k)))
 
   loads : (g x j : ℕ) → g < length p.funcs → IsListed (need_of n g).read (GlobalObject x) → x < length p.globals → j < global_size p x
-      → may_load (planned_image w n f b) (planned_tables w n f b) (compartment_of f.groups g) (place x + j) ≡ true
+      → may_load (planned_image w n f b) (planned_tables w n f b) (compartment_of f.groups g) (global_address_of planned x + j) ≡ true
   loads g x j m listed there k = by b.closed refl
     where
-      by : (t : Bool) → b.closed ≡ t → may_load (planned_image w n f b) (planned_tables w n f b) (compartment_of f.groups g) (place x + j) ≡ true
+      by : (t : Bool) → b.closed ≡ t → may_load (planned_image w n f b) (planned_tables w n f b) (compartment_of f.groups g) (global_address_of planned x + j) ≡ true
       by true e = closed_loads law planned e g x j m listed there k
       by false e = open_loads e (compartment_of f.groups g) x j there k
 

@@ -1,6 +1,5 @@
 -- The check of the blocks that start-up fills passes.
 use Rattle.std.proofs.Common.{◌||◌, eq-eqb, ◌≡◌, ◌≢◌, ℕ, ◌+◌, ◌-◌, ◌*◌, ◌/◌, ◌%◌, ◌^◌, ◌<◌, ◌≤◌, inl, inr, true, List, [], ◌∷◌, length, map, None, refl, sym, ap, ◌∙◌, subst, lit<, arith}
-use Rattle.std.specs.Prelude.{unwrap_or}
 use Rattle.base_laws.specs.Lists.{Each}
 use Rattle.machine_devices.specs.declared.image.Image.{Image}
 use Rattle.base_ranges.specs.Ranges.{IsInside, AreApart}
@@ -16,9 +15,7 @@ use Rattle.plan_model.specs.Regions.{region_at}
 use Rattle.plan_model.specs.Blocks.{block, region_bytes}
 use Rattle.plan_model.specs.TableSize.{words_in}
 use Rattle.plan_model.specs.RamBlocks.{RamUse, ForStack, ForMonitor, ForRegion, ForUnwritten}
-use Rattle.plan_model.specs.Placement.{region_spot, no_spot}
 use Rattle.plan_layout_laws.specs.GlobalLaws.{GlobalsAreLaid}
-use Rattle.plan_layout_laws.specs.RamLaws.{HoldsAddress, open_bytes}
 use Rattle.plan_layout_laws.specs.RamPlaces.{block_for}
 use Rattle.monitor_model.specs.declared.tables.Tables.{Tables}
 use Rattle.monitor_model.specs.Layout.{initial_words_at, inits_at}
@@ -33,10 +30,9 @@ use Rattle.image_promises.proofs.Facts.{stack_size_is, stack_least, monitor_size
 use Rattle.plan_model.proofs.Powers.{small_block}
 use Rattle.image_promises.proofs.OpenBytes.{words_held}
 use Rattle.image_promises.proofs.Passing.{and_yes, eq_yes, lt_yes, data_yes, must_yes, then_yes, apart_from}
-use Rattle.image_promises.proofs.Ranges.{IsUse, globals_for, filled_for, filled_is, uses_are, block_size_is, block_in, small}
-use Rattle.image_promises.proofs.AreaEnd.{initial_words_are, end_is}
+use Rattle.image_promises.proofs.Ranges.{IsUse, globals_for, filled_for, filled_is, uses_are, block_in, small, use_bytes, open_room, holds_it}
+use Rattle.image_promises.proofs.AreaEnd.{initial_words_are, end_is, has_compartments}
 use Rattle.image_promises.proofs.ReadBack.{ReadLaws}
-use Rattle.image_promises.proofs.TablesPass.{some}
 use Rattle.image_promises.proofs.ObjectSizes.{global_is_large}
 use Rattle.ir_laws.proofs.GlobalShapes.{global_shaped}
 use Rattle.image_promises.proofs.FinalRegions as regions
@@ -75,9 +71,6 @@ module _ (law : ReadLaws) (typing : TypedOverNumbers) (laid : GlobalsAreLaid) (p
   abbrev i : Image
   i = planned_image w n f b
 
-  abbrev bytes : RamUse → ℕ
-  bytes u = region_bytes p (globals_for f u)
-
   abbrev words : RamUse → ℕ
   words u = words_in p (globals_for f u)
 
@@ -86,19 +79,8 @@ module _ (law : ReadLaws) (typing : TypedOverNumbers) (laid : GlobalsAreLaid) (p
 
   -- ---- where a block lies
 
-  abbrev room : RamUse → ℕ
-  room u = open_bytes (block (bytes u)) (bytes u)
-
-  held : (u : RamUse) → IsUse f u → (4 * words u ≤ room u) × (0 < room u)
-  held u h = words_held (bytes u) (small law.plans planned u h)
-
-  holds_it : (u : RamUse) → IsUse f u → (x : ℕ) → base u ≤ x → x < base u + room u → HoldsAddress p f l u x
-  holds_it ForStack h x a c = absurd h.of_globals
-  holds_it ForMonitor h x a c = absurd h.of_globals
-  holds_it (ForRegion r) h x a c =
-      (a, subst (λ z. x < (region_spot l r).base + open_bytes z (bytes (ForRegion r))) (sym (block_size_is law.plans planned (ForRegion r) h)) c)
-  holds_it ForUnwritten h x a c =
-      (a, subst (λ z. x < (unwrap_or l.unwritten no_spot).base + open_bytes z (bytes ForUnwritten)) (sym (block_size_is law.plans planned ForUnwritten h)) c)
+  held : (u : RamUse) → IsUse f u → (4 * words u ≤ open_room planned u) × (0 < open_room planned u)
+  held u h = words_held (use_bytes planned u) (small law.plans planned u h)
 
   no_stack : (u : RamUse) → IsUse f u → u ≢ ForStack
   no_stack ForStack h = absurd h.of_globals
@@ -117,23 +99,23 @@ module _ (law : ReadLaws) (typing : TypedOverNumbers) (laid : GlobalsAreLaid) (p
       let e = held u h in
       let z = stack_size_is law.plans planned in
       let least = stack_least law.plans planned in
-      shrink (base u) (4 * words u) (room u) l.stack.base l.stack.size e.0
-      (apart_from (base u) (room u) l.stack.base l.stack.size e.1 (omega (arith, z, least))
-      (λ x a c d g. law.plans.apart p f s b u ForStack x (no_stack u h) (holds_it u h x a c) (d, g)))
+      shrink (base u) (4 * words u) (open_room planned u) l.stack.base l.stack.size e.0
+      (apart_from (base u) (open_room planned u) l.stack.base l.stack.size e.1 (omega (arith, z, least))
+      (λ x a c d g. law.plans.apart p f s b u ForStack x (no_stack u h) (holds_it law.plans planned u h x a c) (d, g)))
 
   off_monitor : (u : RamUse) → IsUse f u → AreApart (base u) (4 * words u) l.monitor.base 1024
   off_monitor u h =
       let e = held u h in
       let z = monitor_size_is law.plans planned in
-      shrink (base u) (4 * words u) (room u) l.monitor.base 1024 e.0
-      (apart_from (base u) (room u) l.monitor.base 1024 e.1 (lit< tt)
-      (λ x a c d g. law.plans.apart p f s b u ForMonitor x (no_monitor u h) (holds_it u h x a c) (d, omega (arith, g, z))))
+      shrink (base u) (4 * words u) (open_room planned u) l.monitor.base 1024 e.0
+      (apart_from (base u) (open_room planned u) l.monitor.base 1024 e.1 (lit< tt)
+      (λ x a c d g. law.plans.apart p f s b u ForMonitor x (no_monitor u h) (holds_it law.plans planned u h x a c) (d, omega (arith, g, z))))
 
   even : (u : RamUse) → IsUse f u → base u % 4 ≡ 0
   even u h =
-      let power = (small_block (bytes u) (small law.plans planned u h)).0 in
+      let power = (small_block (use_bytes planned u) (small law.plans planned u h)).0 in
       let five = power.1 in
-      multiple_of (base u) 4 (2 ^ (power.0 - 2)) (block (bytes u)) (power.3 ∙ power_split 2 power.0 (omega (arith, five))) (block_in law.plans planned u h).1
+      multiple_of (base u) 4 (2 ^ (power.0 - 2)) (block (use_bytes planned u)) (power.3 ∙ power_split 2 power.0 (omega (arith, five))) (block_in law.plans planned u h).1
 
   words_fit : (bytes size : ℕ) → bytes ≤ size → size % 4 ≡ 0 → 4 * ((bytes + 3) / 4 * 4 / 4) ≤ size
   words_fit n z le m = omega (arith, le, m)
@@ -141,11 +123,11 @@ module _ (law : ReadLaws) (typing : TypedOverNumbers) (laid : GlobalsAreLaid) (p
   inside : (u : RamUse) → IsUse f u → IsInside (base u) (4 * words u) b.ram_base b.ram_size
   inside u h =
       let ins = (block_in law.plans planned u h).0 in
-      let is = small_block (bytes u) (small law.plans planned u h) in
+      let is = small_block (use_bytes planned u) (small law.plans planned u h) in
       let power = is.0 in
       let five = power.1 in
       let exact = power.3 ∙ power_split 2 power.0 (omega (arith, five)) in
-      let fits = words_fit (bytes u) (block (bytes u)) is.1 (omega (arith, exact)) in
+      let fits = words_fit (use_bytes planned u) (block (use_bytes planned u)) is.1 (omega (arith, exact)) in
       let low = ins.0 in
       let high = ins.1 in
       (low, omega (arith, high, fits))
@@ -192,7 +174,7 @@ module _ (law : ReadLaws) (typing : TypedOverNumbers) (laid : GlobalsAreLaid) (p
   pub begin_is : words_begin p n f l (slots_of b) ≡ initial_words_at t
   unfolding tables_of
   begin_is =
-      let e = end_is law.counts p n f l b (some law typing planned) in
+      let e = end_is law.counts p n f l b (has_compartments typing planned) in
       let c = initial_words_are p n f l b in
       let m = law.counts.words p n f l b in
       omega (arith, e, c, m)

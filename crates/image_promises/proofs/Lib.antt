@@ -20,8 +20,9 @@ mod Covers
 pub mod CoverParts
 pub mod Bearing
 mod Loans
+pub mod PlannedSlots
 mod WindowsOpen
-mod Windows
+pub mod Windows
 mod Memory
 mod CodeBlocks
 pub mod Lists

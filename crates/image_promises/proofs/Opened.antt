@@ -3,7 +3,6 @@ use Rattle.std.proofs.Common.{◌≡◌, ℕ, ◌<◌, ◌≤◌, ◌+◌, true,
 use Rattle.std.specs.List.{list_any}
 use Rattle.std.proofs.lemmas.List.{length-map, length-append}
 use Rattle.std.proofs.lemmas.Bool.{or_left, or_right}
-use mathlib.Core.Logic.{⊎_elim}
 use Rattle.machine_protection.specs.declared.region.Region.{Region}
 use Rattle.machine_protection.specs.Regions.{holds}
 use Rattle.machine_protection.specs.Protection.{deciding}
@@ -20,23 +19,21 @@ use Rattle.plan_model.specs.Groups.{compartment_of, writes, reads}
 use Rattle.plan_model.specs.Regions.{region_at, regions_used, is_user, global_size}
 use Rattle.plan_model.specs.RamBlocks.{ForRegion}
 use Rattle.plan_model.specs.InitialGraph.{initial_graph}
-use Rattle.plan_model.specs.Slots.{data_slot, cover_slot, slot_uses, slot_regions, slots_from}
+use Rattle.plan_model.specs.Slots.{data_slot, cover_slot, slot_uses}
 use Rattle.plan_layout_laws.specs.RamLaws.{HoldsAddress}
 use Rattle.need_laws.specs.Reached.{IsListed}
-use Rattle.monitor_model.specs.declared.tables.CompRecord.{CompRecord}
-use Rattle.monitor_model.specs.Records.{compartment_at, nobody}
+use Rattle.monitor_model.specs.Records.{compartment_at}
 use Rattle.monitor_model.specs.Setting.{may_load, may_store, allows_stores}
-use Rattle.image_model.specs.LinkedTables.{tables_of, comp_record}
 use Rattle.image_promises.specs.Planned.{planned_tables, planned_image}
 use Rattle.plan.specs.PlannedFirmwares.{plan, planned_sizes}
-use Rattle.image_promises.proofs.PlannedPremises.{PlannedPremises, final_graph_of}
+use Rattle.image_promises.proofs.PlannedPremises.{PlannedPremises, final_graph_of, global_address_of}
+use Rattle.image_promises.proofs.PlannedSlots.{slot_limits, slots_at}
 use Rattle.image_promises.proofs.Bearing.{written_stores, borne_holds}
 use Rattle.image_promises.proofs.Compartments.{in_compartment}
 use Rattle.image_promises.proofs.Reach.{one_of, has_listed}
-use Rattle.std.proofs.lemmas.List.FromFn.{get_or-map-range_with_len}
 use Rattle.image_promises.proofs.Lists.{passing_among, each_passing, below_all}
 use Rattle.image_promises.proofs.FinalRegions as regions
-use Rattle.image_promises.proofs.GlobalPlaces.{address, aligns}
+use Rattle.image_promises.proofs.GlobalPlaces.{aligns}
 use Rattle.image_promises.proofs.DataSlots.{DataLaws, written_data, borne_data}
 use Rattle.image_promises.proofs.WindowsOpen.{FitsSlots}
 
@@ -54,26 +51,15 @@ module _ (law : SlotLaws) (planned : PlannedPremises) where
   abbrev l : Plan
   l = plan w n f b
 
-  abbrev place : ℕ → ℕ
-  place x = address law.of_data.globals planned x
-
   -- ---- a compartment's slots
-
-  pub slots_are : (2 ≤ slots_of b) × (4 + slots_of b ≤ 16)
-  slots_are = ⊎_elim (λ e. (omega (arith, e), omega (arith, e))) (λ e. (omega (arith, e), omega (arith, e))) ok.board.regions
 
   uses_few : (c : ℕ) → c < f.groups.count → length (slot_uses p f l c) ≤ slots_of b
   uses_few c m =
-      let most = law.few p (slots_of b) (initial_graph p n f.groups) f slots_are.0 ok.final c m in
+      let most = law.few p (slots_of b) (initial_graph p n f.groups) f (slot_limits planned).0 ok.final c m in
       let one = length-append (map (data_slot p f l c) (regions_used f.regions c)) (map cover_slot (get_or f.covers c [])) in
       let two = length-map (regions_used f.regions c) (data_slot p f l c) in
       let three = length-map (get_or f.covers c []) cover_slot in
       omega (arith, most, one, two, three)
-
-  pub slots_at : (c : ℕ) → c < f.groups.count → (compartment_at (planned_tables w n f b) c).slots ≡ slots_from 4 (slots_of b) (slot_uses p f l c)
-  unfolding tables_of slot_regions
-  slots_at c m =
-      ap (λ (r : CompRecord). r.slots) (get_or-map-range_with_len (comp_record p f l (slots_of b)) 0 f.groups.count c c nobody m (let e : 0 + c ≡ c = omega arith in e))
 
   -- those of its regions come first
   module _ (c : ℕ) (there : c < f.groups.count) (r : ℕ) (region : r < length f.regions) (a : ℕ) (it : HoldsAddress p f l (ForRegion r) a) where
@@ -88,43 +74,43 @@ module _ (law : SlotLaws) (planned : PlannedPremises) where
     region_stores : has (region_at f.regions r).writers c ≡ true → may_store (planned_tables w n f b) c a ≡ true
     unfolding may_store
     region_stores writer =
-        ap (λ gs. allows_stores (deciding gs a)) (slots_at c there)
+        ap (λ gs. allows_stores (deciding gs a)) (slots_at planned c there)
         ∙ written_stores a (slot_uses p f l c) 4 (slots_of b)
         (written_data law.of_data planned c a r region it writer (regions_used f.regions c) (get_or f.covers c []) used_below
         (used (or_left (has (region_at f.regions r).writers c) (has (region_at f.regions r).readers c) writer)))
-        (uses_few c there) slots_are.1
+        (uses_few c there) (slot_limits planned).1
 
     region_loads : is_user c (region_at f.regions r) ≡ true → may_load (planned_image w n f b) (planned_tables w n f b) c a ≡ true
     unfolding may_load
     region_loads user =
         or_right _ _
         (or_left (list_any (λ (g : Region). holds g a) (compartment_at (planned_tables w n f b) c).slots) _
-        (ap (list_any (λ (g : Region). holds g a)) (slots_at c there)
+        (ap (list_any (λ (g : Region). holds g a)) (slots_at planned c there)
         ∙ borne_holds a (slot_uses p f l c) 4 (slots_of b)
         (borne_data law.of_data planned c a r region it (regions_used f.regions c) (get_or f.covers c []) (used user))
-        (uses_few c there) slots_are.1))
+        (uses_few c there) (slot_limits planned).1))
 
   -- ---- a function's needs
 
-  held_at : (x j r : ℕ) → j < global_size p x → r < length f.regions → has (region_at f.regions r).globals x ≡ true → HoldsAddress p f l (ForRegion r) (place x + j)
+  held_at : (x j r : ℕ) → j < global_size p x → r < length f.regions → has (region_at f.regions r).globals x ≡ true → HoldsAddress p f l (ForRegion r) (global_address_of planned x + j)
   held_at x j r k h i = (law.of_data.globals.held p f (planned_sizes w n f b) b ok.board ok.fits (aligns law.of_data.globals planned) x j k).0 r (regions.region_is (final_graph_of planned) r x h i)
 
   pub stores : (g x j : ℕ) → g < length p.funcs → IsListed (need_of n g).written (GlobalObject x) → x < length p.globals → j < global_size p x
-      → may_store (planned_tables w n f b) (compartment_of f.groups g) (place x + j) ≡ true
+      → may_store (planned_tables w n f b) (compartment_of f.groups g) (global_address_of planned x + j) ≡ true
   stores g x j m listed there k =
       let c = compartment_of f.groups g in
       let inn = in_compartment p f.groups ok.groups g m in
       let writer : writes n f.groups c (Global x) ≡ true = one_of f.groups (λ y. has_object (need_of n y).written (Global x)) g inn.listed (has_listed (need_of n g).written (GlobalObject x) listed) in
       let some = regions.in_region (final_graph_of planned) x there (regions.written_used (final_graph_of planned) x c inn.below writer) in
-      region_stores c inn.below some.0 some.1 (place x + j) (held_at x j some.0 k some.1 some.2) (regions.writers (final_graph_of planned) x c inn.below writer some.0 some.1 some.2)
+      region_stores c inn.below some.0 some.1 (global_address_of planned x + j) (held_at x j some.0 k some.1 some.2) (regions.writers (final_graph_of planned) x c inn.below writer some.0 some.1 some.2)
 
   pub closed_loads : b.closed ≡ true → (g x j : ℕ) → g < length p.funcs → IsListed (need_of n g).read (GlobalObject x) → x < length p.globals → j < global_size p x
-      → may_load (planned_image w n f b) (planned_tables w n f b) (compartment_of f.groups g) (place x + j) ≡ true
+      → may_load (planned_image w n f b) (planned_tables w n f b) (compartment_of f.groups g) (global_address_of planned x + j) ≡ true
   closed_loads closed g x j m listed there k =
       let c = compartment_of f.groups g in
       let inn = in_compartment p f.groups ok.groups g m in
       let kind : n.closed ≡ true = ok.needs.kind ∙ closed in
       let reader : reads n f.groups c (Global x) ≡ true = one_of f.groups (λ y. has_object (need_of n y).read (Global x)) g inn.listed (has_listed (need_of n g).read (GlobalObject x) listed) in
       let some = regions.in_region (final_graph_of planned) x there (regions.read_used (final_graph_of planned) x c kind inn.below reader) in
-      region_loads c inn.below some.0 some.1 (place x + j) (held_at x j some.0 k some.1 some.2)
+      region_loads c inn.below some.0 some.1 (global_address_of planned x + j) (held_at x j some.0 k some.1 some.2)
       (or_right (has (region_at f.regions some.0).writers c) (has (region_at f.regions some.0).readers c) (regions.readers (final_graph_of planned) x c kind inn.below reader some.0 some.1 some.2))

@@ -16,14 +16,14 @@ use Rattle.plan_model.specs.Placement.{global_address}
 use Rattle.plan_layout.proofs.Searches.{position_is}
 use Rattle.code_model.specs.FrameShape.{local_starts}
 use Rattle.code_model.specs.Places.{site_in}
-use Rattle.code_model.specs.CompartmentCode.{CodeGroups, CodePlaces, sites_of, lends_of, entry_of, places_of}
-use Rattle.code_model.specs.Planned.{call_sites, code_groups, code_places}
+use Rattle.code_model.specs.CompartmentCode.{sites_of, lends_of, entry_of, places_of}
+use Rattle.code_model.specs.Planned.{call_sites}
 use Rattle.code_model.specs.Laws.{SitesAgree}
 use Rattle.code_lower_laws.specs.Fitting.{TypedFunctionsFit}
 use Rattle.monitor_program.specs.TheCode.{monitor_code}
 use Rattle.plan.specs.PlannedFirmwares.{plan}
 use Rattle.plan_model.proofs.KeptLimits.{few}
-use Rattle.image_promises.proofs.PlannedPremises.{PlannedPremises}
+use Rattle.image_promises.proofs.PlannedPremises.{PlannedPremises, code_groups_of, code_places_of}
 use Rattle.image_promises.proofs.ReadBack.{ReadLaws}
 use Rattle.image_promises.specs.Parts.{CodeIsPlaced}
 use Rattle.image_promises.proofs.EntryPlaces.{entry_in, entry_aligned}
@@ -50,38 +50,32 @@ module _ (law : ReadLaws) (placed : CodeIsPlaced) (fits : TypedFunctionsFit) (ag
   abbrev l : Plan
   l = plan w n f b
 
-  abbrev groups : CodeGroups
-  groups = code_groups p n f.groups
-
-  abbrev places : CodePlaces
-  places = code_places p n f l
-
-  window_below : (q : ℕ) → get_or places.windows q 0 < 2 ^ 32
+  window_below : (q : ℕ) → get_or (code_places_of planned).windows q 0 < 2 ^ 32
   window_below q = ⊎_elim inner outer (cases_lt q (length p.periphs))
     where
-      inner : q < length p.periphs → get_or places.windows q 0 < 2 ^ 32
+      inner : q < length p.periphs → get_or (code_places_of planned).windows q 0 < 2 ^ 32
       inner h =
           let e = get_or-map (λ (x : NumberedWindow). x.base) p.periphs q no_window 0 h in
           let t = ((windows w ok.typed).each q h).place.1 in
           omega (arith, e, t)
 
-      outer : length p.periphs ≤ q → get_or places.windows q 0 < 2 ^ 32
-      outer h = let m = length-map p.periphs (λ (x : NumberedWindow). x.base) in let e = get_or_past places.windows q 0 (omega (arith, m, h)) in omega (arith, e)
+      outer : length p.periphs ≤ q → get_or (code_places_of planned).windows q 0 < 2 ^ 32
+      outer h = let m = length-map p.periphs (λ (x : NumberedWindow). x.base) in let e = get_or_past (code_places_of planned).windows q 0 (omega (arith, m, h)) in omega (arith, e)
 
-  entry_is : (h g : ℕ) → h < length p.funcs → get_or (places_of p groups places g).entries h 0 ≡ entry_of p groups places h
-  entry_is h g there = get_or-map-range_with_len (entry_of p groups places) 0 (length p.funcs) h h 0 there (let e : 0 + h ≡ h = omega arith in e)
+  entry_is : (h g : ℕ) → h < length p.funcs → get_or (places_of p (code_groups_of planned) (code_places_of planned) g).entries h 0 ≡ entry_of p (code_groups_of planned) (code_places_of planned) h
+  entry_is h g there = get_or-map-range_with_len (entry_of p (code_groups_of planned) (code_places_of planned)) 0 (length p.funcs) h h 0 there (let e : 0 + h ≡ h = omega arith in e)
 
-  site_below : (h i k s : ℕ) → h < length p.funcs → site_in (sites_of p groups h) i k ≡ Some s → s < 2 ^ 16
+  site_below : (h i k s : ℕ) → h < length p.funcs → site_in (sites_of p (code_groups_of planned) h) i k ≡ Some s → s < 2 ^ 16
   unfolding site_number
   site_below h i k s there e =
-      let own : sites_of p groups h ≡ call_sites n f.groups h = get_or-map-range_with_len (call_sites n f.groups) 0 (length p.funcs) h h [] there (let e : 0 + h ≡ h = omega arith in e) in
+      let own : sites_of p (code_groups_of planned) h ≡ call_sites n f.groups h = get_or-map-range_with_len (call_sites n f.groups) 0 (length p.funcs) h h [] there (let e : 0 + h ≡ h = omega arith in e) in
       let same : position (stands_at h i k) (crossing_sites n f.groups) ≡ Some s = sym (agree n f.groups h i k) ∙ (ap (λ ss. site_in ss i k) (sym own) ∙ e) in
       let none : SiteNeed = record { func = 0; block = 0; inst = 0; targets = [] } in
       let below = (position_is (stands_at h i k) (crossing_sites n f.groups) s none (sym same)).0 in
       let most = (few n f.groups ok.limits).sites in
       omega (arith, below, most)
 
-  pub places_fit : (h : ℕ) → h < length p.funcs → PlacesFit b.flash_base (b.flash_base + 0x100000) (length p.funcs) (places_of p groups places h)
+  pub places_fit : (h : ℕ) → h < length p.funcs → PlacesFit b.flash_base (b.flash_base + 0x100000) (length p.funcs) (places_of p (code_groups_of planned) (code_places_of planned) h)
   places_fit h there = record {
     globals = λ x. mapped_below (2 ^ 32) (global_address p f l) (length p.globals) x (omega arith) (λ m. global_below law.plans planned x);
     windows = window_below;
@@ -109,14 +103,14 @@ module _ (law : ReadLaws) (placed : CodeIsPlaced) (fits : TypedFunctionsFit) (ag
           let none = get_or_past (lend_numbers_in p n f.groups h) i None (omega (arith, m, past)) in
           cc
 
-  pub frame_fits : (h : ℕ) → h < length p.funcs → FrameFits (func_at p h) (places_of p groups places h)
+  pub frame_fits : (h : ℕ) → h < length p.funcs → FrameFits (func_at p h) (places_of p (code_groups_of planned) (code_places_of planned) h)
   frame_fits h there =
       let s = small fits w ok.typed ok.within h there in
-      let own : lends_of p groups h ≡ lend_numbers_in p n f.groups h = get_or-map-range_with_len (lend_numbers_in p n f.groups) 0 (length p.funcs) h h [] there (let e : 0 + h ≡ h = omega arith in e) in
+      let own : lends_of p (code_groups_of planned) h ≡ lend_numbers_in p n f.groups h = get_or-map-range_with_len (lend_numbers_in p n f.groups) 0 (length p.funcs) h h [] there (let e : 0 + h ≡ h = omega arith in e) in
       record {
         registers = s.registers;
         params = s.params;
         words = words_few (func_at p h) s.frame;
         starts = starts_few (func_at p h) s.frame;
-        lends = lends_fit (local_starts (func_at p h)) (lends_of p groups h) (starts_few (func_at p h) s.frame) (λ i k e. lend_below h i k (ap (λ ns. get_or ns i None) (sym own) ∙ e));
+        lends = lends_fit (local_starts (func_at p h)) (lends_of p (code_groups_of planned) h) (starts_few (func_at p h) s.frame) (λ i k e. lend_below h i k (ap (λ ns. get_or ns i None) (sym own) ∙ e));
       }

@@ -77,7 +77,8 @@ abbrev pub AllDiffer : List RamUse → Type 0
 AllDiffer [] = Unit {0}
 AllDiffer (u ∷ us) = Each (λ v. u ≢ v) us × AllDiffer us
 
-abbrev number_of : RamUse → ℕ
+-- the number of the data region that a block is for, or 0
+abbrev pub number_of : RamUse → ℕ
 number_of (ForRegion r) = r
 number_of _ = 0
 
@@ -113,6 +114,13 @@ uses_are f = are_uses f 0 (length f.regions) (unwritten_uses f.unwritten) (omega
 
 -- ---- their ranges
 
+-- how many bytes the globals of a use's block take, and how many of the block are open
+abbrev pub use_bytes : PlannedPremises → RamUse → ℕ
+use_bytes planned u = region_bytes (resolve planned.firmware) (globals_for planned.final u)
+
+abbrev pub open_room : PlannedPremises → RamUse → ℕ
+open_room planned u = open_bytes (block (use_bytes planned u)) (use_bytes planned u)
+
 module _ (law : PlanLaws) (planned : PlannedPremises) where
   open planned use {firmware as w, needs as n, final as f, board as b, is_planned as ok}
 
@@ -122,37 +130,31 @@ module _ (law : PlanLaws) (planned : PlannedPremises) where
   abbrev l : Plan
   l = plan w n f b
 
-  abbrev bytes : RamUse → ℕ
-  bytes u = region_bytes p (globals_for f u)
-
   abbrev filling : RamUse → ℕ
   filling u = 4 * words_in p (globals_for f u)
 
-  pub block_size_is : (u : RamUse) → IsUse f u → (block_for l u).size ≡ block (bytes u)
+  pub block_size_is : (u : RamUse) → IsUse f u → (block_for l u).size ≡ block (use_bytes planned u)
   block_size_is ForStack h = absurd h.of_globals
   block_size_is ForMonitor h = absurd h.of_globals
   block_size_is (ForRegion r) h = law.there p f _ b (ForRegion r) h.there
   block_size_is ForUnwritten h = law.there p f _ b ForUnwritten h.there
 
-  pub block_in : (u : RamUse) → IsUse f u → IsInside (block_for l u).base (block (bytes u)) b.ram_base b.ram_size × ((block_for l u).base % block (bytes u) ≡ 0)
+  pub block_in : (u : RamUse) → IsUse f u → IsInside (block_for l u).base (block (use_bytes planned u)) b.ram_base b.ram_size × ((block_for l u).base % block (use_bytes planned u) ≡ 0)
   block_in u h =
       let e = block_size_is u h in
-      let q = block_positive (bytes u) in
+      let q = block_positive (use_bytes planned u) in
       let i = law.inside p f _ b u ok.board ok.fits (omega (arith, e, q)) in
       subst (λ z. IsInside (block_for l u).base z b.ram_base b.ram_size × ((block_for l u).base % z ≡ 0)) e i
 
-  pub small : (u : RamUse) → IsUse f u → block (bytes u) < 2 ^ 32
+  pub small : (u : RamUse) → IsUse f u → block (use_bytes planned u) < 2 ^ 32
   small u h = let i = (block_in u h).0 in let a = i.1 in let d = ok.board.ram_highest in let m = ok.board.ram_size.most in omega (arith, a, d, m)
 
-  -- what a block holds
-  abbrev room : RamUse → ℕ
-  room u = open_bytes (block (bytes u)) (bytes u)
-
-  holds_it : (u : RamUse) → IsUse f u → (x : ℕ) → (block_for l u).base ≤ x → x < (block_for l u).base + room u → HoldsAddress p f l u x
+  -- a block holds the addresses of its open bytes
+  pub holds_it : (u : RamUse) → IsUse f u → (x : ℕ) → (block_for l u).base ≤ x → x < (block_for l u).base + open_room planned u → HoldsAddress p f l u x
   holds_it ForStack h x a c = absurd h.of_globals
   holds_it ForMonitor h x a c = absurd h.of_globals
-  holds_it (ForRegion r) h x a c = (a, subst (λ z. x < (region_spot l r).base + open_bytes z (bytes (ForRegion r))) (sym (block_size_is (ForRegion r) h)) c)
-  holds_it ForUnwritten h x a c = (a, subst (λ z. x < (unwrap_or l.unwritten no_spot).base + open_bytes z (bytes ForUnwritten)) (sym (block_size_is ForUnwritten h)) c)
+  holds_it (ForRegion r) h x a c = (a, subst (λ z. x < (region_spot l r).base + open_bytes z (use_bytes planned (ForRegion r))) (sym (block_size_is (ForRegion r) h)) c)
+  holds_it ForUnwritten h x a c = (a, subst (λ z. x < (unwrap_or l.unwritten no_spot).base + open_bytes z (use_bytes planned ForUnwritten)) (sym (block_size_is ForUnwritten h)) c)
 
   shrink : (b n m c k j : ℕ) → n ≤ m → k ≤ j → AreApart b m c j → AreApart b n c k
   shrink b n m c k j h g (inl e) = inl (omega (arith, h, e))
@@ -161,10 +163,10 @@ module _ (law : PlanLaws) (planned : PlannedPremises) where
   -- from another such block
   pub two_apart : (u v : RamUse) → u ≢ v → IsUse f u → IsUse f v → AreApart (block_for l u).base (filling u) (block_for l v).base (filling v)
   two_apart u v ne h k =
-      let a = words_held (bytes u) (small u h) in
-      let c = words_held (bytes v) (small v k) in
-      shrink (block_for l u).base (filling u) (room u) (block_for l v).base (filling v) (room v) a.0 c.0
-      (apart_from (block_for l u).base (room u) (block_for l v).base (room v) a.1 c.1
+      let a = words_held (use_bytes planned u) (small u h) in
+      let c = words_held (use_bytes planned v) (small v k) in
+      shrink (block_for l u).base (filling u) (open_room planned u) (block_for l v).base (filling v) (open_room planned v) a.0 c.0
+      (apart_from (block_for l u).base (open_room planned u) (block_for l v).base (open_room planned v) a.1 c.1
       (λ x s t y z. law.apart p f _ b u v x ne (holds_it u h x s t) (holds_it v k x y z)))
 
   as_range : (a n c m : ℕ) → AreApart a n c m → AreApart a (a + n - a) c (c + m - c)

@@ -22,9 +22,9 @@ use Rattle.monitor_model.specs.declared.tables.Tables.{Tables}
 use Rattle.image_model.specs.Laws.{CountsAgree}
 use Rattle.image_model.specs.LinkedTables.{tables_of}
 use Rattle.image_model.specs.LinkedImage.{erased, with_tables, linked}
-use Rattle.image_promises.specs.Planned.{planned_tables, planned_image}
+use Rattle.image_promises.specs.Planned.{planned_tables}
 use Rattle.plan.specs.PlannedFirmwares.{planned_sizes, plan}
-use Rattle.image_promises.proofs.PlannedPremises.{PlannedPremises}
+use Rattle.image_promises.proofs.PlannedPremises.{PlannedPremises, image_flash_of, code_offset_of}
 use Rattle.image_promises.proofs.FlashBack.{IsOff, puts, puts_off, puts_in, in_all}
 use Rattle.image_promises.proofs.FlashParts.{code_ends, tables_end, code_count, code_size_is, tables_size_is, size_is}
 use Rattle.image_promises.proofs.AreaSize.{area_size}
@@ -71,27 +71,20 @@ module _ (law : ReadLaws) (planned : PlannedPremises) where
   abbrev t : Tables
   t = planned_tables w n f b
 
-  abbrev flash : List ℕ
-  flash = (planned_image w n f b).flash
-
-  -- the offset of a compartment's block
-  abbrev at : (compartment : ℕ) → ℕ
-  at c = (compartment_spot l c).base - b.flash_base
-
   abbrev blank : List ℕ
   blank = erased (flash_used l)
 
   abbrev tabled : List ℕ
   tabled = with_tables b.flash_base t blank
 
-  flash_is : flash ≡ puts at (planned_code p n f l) 0 f.groups.count tabled
+  flash_is : image_flash_of planned ≡ puts (code_offset_of planned) (planned_code p n f l) 0 f.groups.count tabled
   unfolding linked
   flash_is = refl
 
-  pub flash_bytes : AreBytes flash
+  pub flash_bytes : AreBytes (image_flash_of planned)
   flash_bytes =
       subst AreBytes (sym flash_is)
-      (put_bytes at (planned_code p n f l) 0 f.groups.count tabled
+      (put_bytes (code_offset_of planned) (planned_code p n f l) 0 f.groups.count tabled
       (written_bytes 4 (head_at t - b.flash_base) (area t) _ (written_bytes 1 (t.base - b.flash_base) (page t) blank (ones_are_bytes (flash_used l)))))
 
   tabled_length : length tabled ≡ flash_used l
@@ -116,12 +109,12 @@ module _ (law : ReadLaws) (planned : PlannedPremises) where
   listed c lt = let m = code_blocks_count law.plans planned in let e = code_count p f s b in omega (arith, lt, m, e)
 
   -- the tables' block has what was written there first
-  tables_byte : (j : ℕ) → j < l.tables.size → slice_index flash j ≡ slice_index tabled j
+  tables_byte : (j : ℕ) → j < l.tables.size → slice_index (image_flash_of planned) j ≡ slice_index tabled j
   tables_byte j lt =
       ap (λ m. slice_index m j) flash_is
-      ∙ puts_off at (planned_code p n f l) 0 f.groups.count tabled j (λ c u v. off c (listed c (omega (arith, v))))
+      ∙ puts_off (code_offset_of planned) (planned_code p n f l) 0 f.groups.count tabled j (λ c u v. off c (listed c (omega (arith, v))))
     where
-      off : (c : ℕ) → c < length l.code → IsOff (at c) (length (planned_code p n f l c)) j
+      off : (c : ℕ) → c < length l.code → IsOff (code_offset_of planned c) (length (planned_code p n f l c)) j
       off c v =
           let x = laid law.plans planned in
           let first = x.vectors in
@@ -142,9 +135,10 @@ module _ (law : ReadLaws) (planned : PlannedPremises) where
 
   -- ---- the tables' block
 
-  base_is : t.base ≡ b.flash_base
+  -- the tables' block stands at the beginning of flash
+  pub tables_at_base : t.base ≡ b.flash_base
   unfolding tables_of
-  base_is = (laid law.plans planned).vectors
+  tables_at_base = (laid law.plans planned).vectors
 
   area_fits : 4096 + 4 * length (area t) ≤ l.tables.size
   area_fits =
@@ -156,51 +150,51 @@ module _ (law : ReadLaws) (planned : PlannedPremises) where
   tables_inside : l.tables.size ≤ flash_used l
   tables_inside = let e = tables_end p f s b in let z = size_is p f s b in omega (arith, e, z)
 
-  pub page_byte : (k : ℕ) → k < 4096 → slice_index flash k ≡ slice_index (page t) k % 256
+  pub page_byte : (k : ℕ) → k < 4096 → slice_index (image_flash_of planned) k ≡ slice_index (page t) k % 256
   page_byte k lt =
       let full = law.pages t in
       let fits = area_fits in
       let room = tables_inside in
-      let base = base_is in
+      let base = tables_at_base in
       let size : length blank ≡ flash_used l = length-replicate (flash_used l) 0xFF in
       let paged : List ℕ = write_all 1 (t.base - b.flash_base) (page t) blank in
       let there : t.base - b.flash_base ≡ 0 = omega (arith, base) in
-      let a : slice_index flash k ≡ slice_index tabled k = tables_byte k (omega (arith, lt, fits)) in
+      let a : slice_index (image_flash_of planned) k ≡ slice_index tabled k = tables_byte k (omega (arith, lt, fits)) in
       let c : slice_index tabled k ≡ slice_index paged k = byte_apart_all 4 (head_at t - b.flash_base) (area t) paged k (λ j u e. absurd (omega (arith, e, base, lt))) in
       let d : slice_index paged (t.base - b.flash_base + k) % 256 ≡ slice_index (page t) k % 256 =
       in_all (t.base - b.flash_base) (page t) blank k (omega (arith, lt, full)) (omega (arith, there, full, fits, room, size)) in
       let same : t.base - b.flash_base + k ≡ k = omega (arith, there) in
       let small = flash_bytes k in
-      let whole : slice_index flash k ≡ slice_index flash k % 256 = omega (arith, small) in
+      let whole : slice_index (image_flash_of planned) k ≡ slice_index (image_flash_of planned) k % 256 = omega (arith, small) in
       whole ∙ (ap (λ x. x % 256) (a ∙ c) ∙ subst (λ j. slice_index paged j % 256 ≡ slice_index (page t) k % 256) same d)
 
   -- words of the tables, by their numbers
-  pub area_word : (k : ℕ) → k < length (area t) → read 4 (4096 + 4 * k) flash ≡ cut 4 (slice_index (area t) k)
+  pub area_word : (k : ℕ) → k < length (area t) → read 4 (4096 + 4 * k) (image_flash_of planned) ≡ cut 4 (slice_index (area t) k)
   area_word k lt =
       let fits = area_fits in
       let room = tables_inside in
-      let base = base_is in
+      let base = tables_at_base in
       let size : length blank ≡ flash_used l = length-replicate (flash_used l) 0xFF in
       let paged : List ℕ = write_all 1 (t.base - b.flash_base) (page t) blank in
       let long : length paged ≡ length blank = length-write_all 1 (t.base - b.flash_base) (page t) blank in
-      let a : read 4 (4096 + 4 * k) flash ≡ read 4 (4096 + 4 * k) tabled = read_alike 4 (4096 + 4 * k) flash tabled (λ i u. tables_byte (4096 + 4 * k + i) (omega (arith, u, lt, fits))) in
+      let a : read 4 (4096 + 4 * k) (image_flash_of planned) ≡ read 4 (4096 + 4 * k) tabled = read_alike 4 (4096 + 4 * k) (image_flash_of planned) tabled (λ i u. tables_byte (4096 + 4 * k + i) (omega (arith, u, lt, fits))) in
       let there : head_at t - b.flash_base ≡ 4096 = omega (arith, base) in
       let c = read_all 4 (head_at t - b.flash_base) (area t) paged k lt (omega (arith, there, fits, room, size, long)) in
       a ∙ subst (λ o. read 4 (o + 4 * k) tabled ≡ cut 4 (slice_index (area t) k)) there c
 
   -- ---- code
 
-  pub code_byte : (c k : ℕ) → c < f.groups.count → k < length (planned_code p n f l c) → slice_index flash (at c + k) ≡ slice_index (planned_code p n f l c) k % 256
+  pub code_byte : (c k : ℕ) → c < f.groups.count → k < length (planned_code p n f l c) → slice_index (image_flash_of planned) (code_offset_of planned c + k) ≡ slice_index (planned_code p n f l c) k % 256
   code_byte c k lt u =
       let x = laid law.plans planned in
       let from = (x.inside c (listed c lt)).0 in
       let h = code_fits c lt in
       let room = ends c (listed c lt) in
       let long = tabled_length in
-      let small = flash_bytes (at c + k) in
-      let whole : slice_index flash (at c + k) ≡ slice_index flash (at c + k) % 256 = omega (arith, small) in
-      whole ∙ (ap (λ m. slice_index m (at c + k) % 256) flash_is
-      ∙ puts_in at (planned_code p n f l) 0 f.groups.count tabled c k (omega arith) (omega (arith, lt)) u (omega (arith, room, long, h, from)) (λ d ne v. off d ne (omega (arith, v))))
+      let small = flash_bytes (code_offset_of planned c + k) in
+      let whole : slice_index (image_flash_of planned) (code_offset_of planned c + k) ≡ slice_index (image_flash_of planned) (code_offset_of planned c + k) % 256 = omega (arith, small) in
+      whole ∙ (ap (λ m. slice_index m (code_offset_of planned c + k) % 256) flash_is
+      ∙ puts_in (code_offset_of planned) (planned_code p n f l) 0 f.groups.count tabled c k (omega arith) (omega (arith, lt)) u (omega (arith, room, long, h, from)) (λ d ne v. off d ne (omega (arith, v))))
     where
       ends : (c : ℕ) → c < length l.code → (compartment_spot l c).base - b.flash_base + (compartment_spot l c).size ≤ flash_used l
       ends c v =
@@ -210,7 +204,7 @@ module _ (law : ReadLaws) (planned : PlannedPremises) where
           let z = size_is p f s b in
           omega (arith, from, e, z)
 
-      off : (d : ℕ) → d ≢ c → d < f.groups.count → IsOff (at d) (length (planned_code p n f l d)) (at c + k)
+      off : (d : ℕ) → d ≢ c → d < f.groups.count → IsOff (code_offset_of planned d) (length (planned_code p n f l d)) (code_offset_of planned c + k)
       off d ne v =
           let x = laid law.plans planned in
           let h = code_fits c lt in

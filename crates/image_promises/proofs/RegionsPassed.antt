@@ -2,7 +2,6 @@
 use Rattle.std.proofs.Common.{◌≡◌, ℕ, zero, suc, ◌+◌, ◌^◌, ◌<◌, ◌≤◌, Bool, true, false, ◌||◌, List, [], ◌∷◌, length, map, filter, get_or, cond, None, refl, ap₂, sym, ◌∙◌, subst, lit<, arith}
 use Rattle.std.specs.List.{range_with_len}
 use Rattle.std.proofs.lemmas.Bool.{or_left}
-use mathlib.Core.Logic.{⊎_elim}
 use Rattle.base_laws.specs.Lists.{Each}
 use Rattle.machine_devices.specs.declared.image.Image.{Image}
 use Rattle.base_ranges.specs.Ranges.{IsPowerBetween, is_inside}
@@ -31,7 +30,8 @@ use Rattle.image_model.specs.LinkedImage.{linked}
 use Rattle.image_promises.specs.Planned.{planned_tables, planned_image}
 use Rattle.plan.specs.PlannedFirmwares.{planned_sizes, plan}
 use Rattle.image_promises.proofs.PlannedPremises.{PlannedPremises, planned_of, final_graph_of}
-use Rattle.image_promises.proofs.Facts.{PlanLaws, laid, length_is, needed_most, code_blocks_count, code_block_is, code_at_most}
+use Rattle.image_promises.proofs.PlannedSlots.{slot_limits}
+use Rattle.image_promises.proofs.Facts.{PlanLaws, laid, length_is, needed_most, code_blocks_count, code_block_is, code_at_most, flash_first}
 use Rattle.image_promises.proofs.FlashParts.{code_count, code_size_is, code_ends}
 use Rattle.image_promises.proofs.Passing.{and_yes, lt_yes, eq_yes, inside_yes, each_yes}
 use Rattle.image_promises.proofs.Bearing.{use_region}
@@ -104,10 +104,6 @@ module _ (law : PlanLaws) (apart : WindowsLieApart) (planned : PlannedPremises) 
   unfolding linked
   closed_is = sym is.needs.kind
 
-  flash_first : i.flash_base ≡ b.flash_base
-  unfolding linked
-  flash_first = refl
-
   -- the code of a compartment
   code_passes : (c : ℕ) → c < f.groups.count → is_code i (code_region l c) ≡ true
   code_passes c lt =
@@ -124,7 +120,7 @@ module _ (law : PlanLaws) (apart : WindowsLieApart) (planned : PlannedPremises) 
       let listed : c < length l.code = omega (arith, there, count) in
       let low = (flash.inside c listed).0 in
       let high = code_ends p f s b c there in
-      let first = flash_first in
+      let first = flash_first planned in
       let long = length_is law planned in
       let made = is_made 2 spot.base spot.size 0 Code (lit< tt) power (flash.aligned c listed) (lit< tt) in
       and_yes made.has
@@ -154,12 +150,9 @@ module _ (law : PlanLaws) (apart : WindowsLieApart) (planned : PlannedPremises) 
       (each_chosen (Passes i t) (data_slot p f l c) (λ r. is_user c (region_at f.regions r)) 0 (length f.regions) (λ r lt user. data_passes c r (omega (arith, lt)) user))
       (covers_pass i t (get_or f.covers c []) (covers_are_parts (final_graph_of planned) (apart w is.typed) c))
 
-  slots_are : 4 + slots_of b ≤ 16
-  slots_are = ⊎_elim (λ e. omega (arith, e)) (λ e. omega (arith, e)) is.board.regions
-
   data_and_covers : (c : ℕ) → are_slots i t 4 (slot_regions p f l (slots_of b) c) ≡ true
   unfolding slot_regions
-  data_and_covers c = slots_pass i t (slot_uses p f l c) 4 (slots_of b) slots_are (all_pass c)
+  data_and_covers c = slots_pass i t (slot_uses p f l c) 4 (slots_of b) (slot_limits planned).1 (all_pass c)
 
   mask_passes : (c : ℕ) → c < f.groups.count → is_mask t (comp_record p f l (slots_of b) c).mask ≡ true
   unfolding tables_of

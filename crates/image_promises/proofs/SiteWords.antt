@@ -26,11 +26,11 @@ use Rattle.image_model.specs.LinkedTables.{planned_places, return_address, site_
 use Rattle.image_promises.specs.Planned.{planned_tables}
 use Rattle.plan.specs.PlannedFirmwares.{plan, planned_sizes}
 use Rattle.image_promises.proofs.PlannedPremises.{PlannedPremises}
+use Rattle.image_promises.proofs.AreaEnd.{has_compartments}
 use Rattle.image_promises.proofs.Facts.{laid, code_blocks_count, needed_most, tables_at_most, tables_block_is}
 use Rattle.image_promises.proofs.FlashParts.{code_count}
 use Rattle.image_promises.proofs.ReadBack.{ReadLaws, code_length, code_fits}
 use Rattle.plan_model.proofs.KeptLimits.{few}
-use Rattle.image_promises.proofs.TablesPass.{some}
 use Rattle.image_promises.proofs.Compartments.{in_compartment}
 use Rattle.image_promises.proofs.Lists.{each_map}
 use Rattle.image_promises.proofs.WordLists.{IsWord, AreWords, each_flat}
@@ -84,7 +84,7 @@ module _ (law : ReadLaws) (typing : TypedOverNumbers) (planned : PlannedPremises
       past le =
           let size = all_placed p f.groups ok.groups in
           let none : compartment_of f.groups h ≡ 0 = get_or_past f.groups.of h 0 (omega (arith, size, le)) in
-          let least = some law typing planned in
+          let least = has_compartments typing planned in
           omega (arith, none, least)
 
   entry_below : (h : ℕ) → planned_entry p n f l h ≤ 0x20000000

@@ -1,5 +1,5 @@
 -- What the slots of a planned firmware's compartments hold is of their permissions.
-use Rattle.std.proofs.Common.{◌≡◌, ℕ, ◌<◌, ◌≤◌, ◌%◌, inl, inr, Bool, true, false, ◌&&◌, List, [], ◌∷◌, length, map, get_or, cond, nat_eq, refl, ap, sym, ◌∙◌, subst, lit<, arith}
+use Rattle.std.proofs.Common.{◌≡◌, ℕ, ◌<◌, ◌≤◌, ◌%◌, inl, inr, Bool, true, false, ◌&&◌, List, [], ◌∷◌, length, map, get_or, sym, ◌∙◌, subst, lit<, arith}
 use Rattle.std.specs.List.{list_any}
 use Rattle.std.proofs.lemmas.Bool.{cases_lt, or_left, or_right, and_from as both}
 use Rattle.std.proofs.lemmas.List.{get_or_past}
@@ -9,10 +9,8 @@ use Rattle.std.proofs.Math.Pow.{pow_mono}
 use mathlib.Core.Logic.{⊎_elim}
 use Rattle.machine_model.specs.Confinement.{AnyOf}
 use Rattle.machine_protection.specs.declared.region.Region.{Region}
-use Rattle.machine_protection.specs.declared.region.Access.TheVariants.{Write}
-use Rattle.machine_protection.specs.declared.words.Rights.TheVariants.{Ram, Background, Device}
-use Rattle.machine_protection.specs.Regions.{holds, permission, allows}
-use Rattle.machine_protection.specs.RegionWords.{region_of}
+use Rattle.machine_protection.specs.declared.words.Rights.TheVariants.{Device}
+use Rattle.machine_protection.specs.Regions.{holds}
 use Rattle.base_laws.specs.Lists.{Each}
 use Rattle.ir_model.specs.declared.object.ObjId.{ObjId}
 use Rattle.ir_model.specs.declared.object.ObjId.TheVariants.{Global, Periph}
@@ -23,11 +21,10 @@ use Rattle.plan_model.specs.declared.graph.Cover.{Cover}
 use Rattle.plan_model.specs.declared.graph.DataRegion as data_region
 use Rattle.plan_model.specs.declared.plan.Plan.{Plan}
 use Rattle.plan_model.specs.declared.plan.Sizes.{Sizes}
-use Rattle.plan_model.specs.declared.plan.Spot.{Spot}
 use Rattle.plan_model.specs.Boards.{slots_of}
 use Rattle.plan_model.specs.Lists.{has, numbers_below}
 use Rattle.plan_model.specs.Regions.{region_at, regions_used, is_user, no_region}
-use Rattle.plan_model.specs.Blocks.{subregions_out, region_bytes}
+use Rattle.plan_model.specs.Blocks.{region_bytes}
 use Rattle.plan_model.specs.Covers.{is_inside}
 use Rattle.plan_model.specs.InitialGraph.{cover_of}
 use Rattle.plan_model.specs.RamBlocks.{RamUse, ForStack, ForMonitor, ForRegion, ForUnwritten}
@@ -41,6 +38,7 @@ use Rattle.image_model.specs.LinkedTables.{tables_of, comp_record}
 use Rattle.image_promises.specs.Planned.{planned_tables}
 use Rattle.plan.specs.PlannedFirmwares.{plan, planned_sizes}
 use Rattle.image_promises.proofs.PlannedPremises.{PlannedPremises, planned_of}
+use Rattle.image_promises.proofs.PlannedSlots.{slot_limits, slots_at}
 use Rattle.image_promises.proofs.Ranges.{globals_for}
 use Rattle.image_promises.specs.Permissions.{IsOf, IsByteOf, IsOnPeripherals, IsInData, IsPermitted, OnPeripherals, InData, SlotsArePermitted, SlotsHoldPermissions}
 use Rattle.base_laws.proofs.Lists.{each_both, each_to}
@@ -48,9 +46,9 @@ use Rattle.image_promises.proofs.Lists.{each_passing, each_map, below_all}
 use Rattle.image_promises.proofs.Bearing.{use_region}
 use Rattle.image_promises.proofs.CoverWindows.{IsFilled, covers_are_filled, whole_inside}
 use Rattle.image_promises.proofs.GlobalPlaces.{placed, byte_held, same_or_other}
-use Rattle.image_promises.proofs.DataSlots.{few_bits, slot_holds}
+use Rattle.image_promises.proofs.DataSlots.{slot_holds, Stores, writes_there}
 use Rattle.image_promises.proofs.DataRanges as ranges
-use Rattle.image_promises.proofs.Opened.{SlotLaws, slots_are, slots_at}
+use Rattle.image_promises.proofs.Opened.{SlotLaws}
 use Rattle.image_promises.proofs.OneSlot.{free_holds, one_slot, open_within}
 
 -- ---- lists
@@ -190,7 +188,7 @@ module _ (law : SlotLaws) (windows : WindowsLieApart) (planned : PlannedPremises
         free number q = absurd (let none = free_holds a number in let wrong : false ≡ true = sym none ∙ holds_it (free_slot number) q in cc)
 
         inner : c < f.groups.count → Goal
-        inner lt = one_slot Q Goal free (slot_uses p f l c) 4 (slots_of b) (slots_are law planned).1 all_serve (subst (AnyOf Q) (slots_at law planned c lt) h)
+        inner lt = one_slot Q Goal free (slot_uses p f l c) 4 (slots_of b) (slot_limits planned).1 all_serve (subst (AnyOf Q) (slots_at planned c lt) h)
 
         outer : f.groups.count ≤ c → Goal
         outer le =
@@ -199,29 +197,6 @@ module _ (law : SlotLaws) (windows : WindowsLieApart) (planned : PlannedPremises
             absurd (subst (λ (r : CompRecord). AnyOf Q r.slots) none h)
 
   -- ---- who may store and load
-
-  abbrev Stores : ℕ → Region → Type 0
-  Stores a g = (holds g a ≡ true) × (permission g ≡ 3)
-
-  -- a data region with a slot in which all may store has the compartment among its writers
-  writes_there : (c a r m : ℕ) → Stores a (use_region m (data_slot p f l c r)) → has (region_at f.regions r).writers c ≡ true
-  writes_there c a r m (h, ap_is) = by (has (region_at f.regions r).writers c) refl
-    where
-      spot : Spot
-      spot = region_spot l r
-
-      out : ℕ
-      out = subregions_out spot.size (region_bytes p (region_at f.regions r).globals)
-
-      lets : allows (use_region m (data_slot p f l c r)) true Write ≡ true
-      lets = ap (λ k. nat_eq k 3) ap_is
-
-      by : (t : Bool) → has (region_at f.regions r).writers c ≡ t → has (region_at f.regions r).writers c ≡ true
-      by true e = e
-      by false e =
-          let off = ap (λ t. allows (region_of m spot.base spot.size out (cond t Ram Background)) true Write) e
-          ∙ law.of_data.given m spot.base spot.size out Background (few_bits spot.size (region_bytes p (region_at f.regions r).globals)) true Write in
-          absurd (let wrong : true ≡ false = sym lets ∙ off in cc)
 
   write_global : (c r x : ℕ) → r < length f.regions → has (region_at f.regions r).writers c ≡ true → has (region_at f.regions r).globals x ≡ true → may_write p n f c (Global x) ≡ true
   unfolding may_write
@@ -245,7 +220,7 @@ module _ (law : SlotLaws) (windows : WindowsLieApart) (planned : PlannedPremises
   slots_are_permitted =
       record {
         stores = λ c a h. slot_permits (may_write p n f c) c a (Stores a) (λ g q. q.0)
-            (λ r m user lt q x it. write_global c r x lt (writes_there c a r m q) it) (write_periph c) h;
+            (λ r m user lt q x it. write_global c r x lt (writes_there law.of_data planned c a r m q) it) (write_periph c) h;
         loads = λ c a h. slot_permits (may_read p n f c) c a (λ (g : Region). holds g a ≡ true) (λ g q. q)
             (λ r m user lt q x it. read_global c r x lt user it) (read_periph c) h;
       }

@@ -24,10 +24,10 @@ use Rattle.plan.specs.PlannedFirmwares.{planned_sizes, plan}
 use Rattle.image_promises.proofs.PlannedPremises.{PlannedPremises}
 use Rattle.image_promises.proofs.Passing.{and_yes, le_yes, eq_yes, inside_yes, must_yes, then_yes}
 use Rattle.image_promises.proofs.FlashParts.{code_size_is}
-use Rattle.image_promises.proofs.Facts.{laid, length_is, needed_most, tables_at_most, tables_block_is, code_blocks_count, code_block_is, code_at_most}
-use Rattle.image_promises.proofs.ReadBack.{ReadLaws}
+use Rattle.image_promises.proofs.Facts.{length_is, needed_most, tables_at_most, tables_block_is, code_blocks_count, code_block_is, code_at_most, flash_first}
+use Rattle.image_promises.proofs.ReadBack.{ReadLaws, tables_at_base}
 use Rattle.plan_model.proofs.KeptLimits.{few, few_targets}
-use Rattle.image_promises.proofs.AreaEnd.{some_compartment, end_is}
+use Rattle.image_promises.proofs.AreaEnd.{end_is, has_compartments}
 use Rattle.image_promises.proofs.CodeRegions.{code_size_log}
 
 module _ (law : ReadLaws) (typing : TypedOverNumbers) (planned : PlannedPremises) where
@@ -44,13 +44,6 @@ module _ (law : ReadLaws) (typing : TypedOverNumbers) (planned : PlannedPremises
 
   abbrev t : Tables
   t = planned_tables w n f b
-
-  pub some : 0 < f.groups.count
-  some = some_compartment p f.groups ok.groups (let m = (typing w ok.typed ok.within).main in omega (arith, m))
-
-  pub base_is : t.base ≡ b.flash_base
-  unfolding tables_of
-  base_is = (laid law.plans planned).vectors
 
   -- a code region has its block
   pub region_size : (c : ℕ) → c < f.groups.count → 2 ^ size_log (code_region l c) ≡ (compartment_spot l c).size
@@ -84,7 +77,7 @@ module _ (law : ReadLaws) (typing : TypedOverNumbers) (planned : PlannedPremises
   greatest_is = greatest_from 0 f.groups.count (omega arith)
 
   ends : area_end t - t.base ≡ s.tables
-  ends = let e = end_is law.counts p n f l b some in omega (arith, e)
+  ends = let e = end_is law.counts p n f l b (has_compartments typing planned) in omega (arith, e)
 
   pub size_at_most : tables_size t ≤ flash_needed s
   unfolding tables_size
@@ -99,12 +92,8 @@ module _ (law : ReadLaws) (typing : TypedOverNumbers) (planned : PlannedPremises
   size_enough =
       let e = ends in
       let h = (tables_block_is law.plans planned).1 in
-      let d = end_is law.counts p n f l b some in
+      let d = end_is law.counts p n f l b (has_compartments typing planned) in
       subst (λ x. area_end t ≤ t.base + max (block x) (greatest_code t.comps)) (sym e) (omega (arith, d, h))
-
-  is_first : (planned_image w n f b).flash_base ≡ b.flash_base
-  unfolding linked
-  is_first = refl
 
   same_stack_base : t.stack.base ≡ (planned_image w n f b).stack_base
   unfolding linked tables_of
@@ -129,11 +118,11 @@ module _ (law : ReadLaws) (typing : TypedOverNumbers) (planned : PlannedPremises
       let n2 = law.counts.sites p n f l b in
       let n3 = law.counts.targets p n f l b in
       let n4 = law.counts.lends p n f l b in
-      let base = base_is in
-      let first = is_first in
+      let base = tables_at_base law planned in
+      let first = flash_first planned in
       let long = length_is law.plans planned in
       let top = size_at_most in
-      let least = some in
+      let least = has_compartments typing planned in
       let a0 : 1 ≤ length t.comps = omega (arith, least, n1) in
       let a1 : length t.comps ≤ 64 = omega (arith, c0, n1) in
       let a2 : length t.sites ≤ 4096 = omega (arith, c1, n2) in

@@ -4,6 +4,7 @@ use Rattle.std.proofs.lemmas.List.{get_or-map, length-map}
 use mathlib.Core.Logic.{⊎_elim}
 use Rattle.machine_bus.specs.Locations.{InRam, InFlash, InWindow, inside, choose, find_window, location}
 use Rattle.ir_model.specs.declared.firmware.Peripheral.{Peripheral}
+use Rattle.ir_model.specs.Plain.{PlainFirmware}
 use Rattle.ir_model.specs.Resolve as numbers
 use Rattle.ir_model.specs.Resolve.{resolve}
 use Rattle.ir_model.specs.Resolved.{NumberedWindow, window_at, no_window}
@@ -20,6 +21,11 @@ use Rattle.base_laws.proofs.Powers.{power_split}
 use Rattle.machine_bus.proofs.Ranges.{outside_behind as behind_it, inside_yes as in_it, inside_no}
 
 -- ---- among windows
+
+-- the peripherals over numbers are those of the firmware, as windows
+pub periphs_are : (w : PlainFirmware) → (resolve w).periphs ≡ map numbers.window_of w.periphs
+unfolding resolve
+periphs_are w = refl
 
 abbrev numbered : List Peripheral → (number : ℕ) → NumberedWindow
 numbered ps q = get_or (map numbers.window_of ps) q no_window
@@ -41,12 +47,8 @@ module _ (law : PlanLaws) (apart : WindowsLieApart) (planned : PlannedPremises) 
   windows : HasWindows (resolve w)
   windows = apart w is.typed
 
-  periphs_are : (resolve w).periphs ≡ map numbers.window_of w.periphs
-  unfolding resolve
-  periphs_are = refl
-
   window_is : (q : ℕ) → window_at (resolve w) q ≡ numbered w.periphs q
-  window_is q = ap (λ ps. get_or ps q no_window) periphs_are
+  window_is q = ap (λ ps. get_or ps q no_window) (periphs_are w)
 
   alone : (q r a : ℕ) → q < length (resolve w).periphs → r < q → (window_at (resolve w) q).base ≤ a → a < (window_at (resolve w) q).base + (window_at (resolve w) q).size
       → inside (window_at (resolve w) r).base (window_at (resolve w) r).size a ≡ false
@@ -68,7 +70,7 @@ module _ (law : PlanLaws) (apart : WindowsLieApart) (planned : PlannedPremises) 
       let size = length_is law planned in
       let needed = needed_most law planned in
       let image = planned_image w n f b in
-      let count = ap length periphs_are in
+      let count = ap length (periphs_are w) in
       let same = length-map w.periphs numbers.window_of in
       let e = window_is q in
       let at_base : a - (numbered w.periphs q).base ≡ at = ap (λ (x : NumberedWindow). a - x.base) (sym e) ∙ (let s : base + at - base ≡ at = omega arith in s) in

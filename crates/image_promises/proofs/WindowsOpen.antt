@@ -7,7 +7,6 @@ use Rattle.std.proofs.lemmas.Nat.Bits.{bit_at-zero}
 use Rattle.std.proofs.lemmas.List.{length-map, length-append}
 use Rattle.std.proofs.lemmas.List.Folds.{list_any-from_Any}
 use Rattle.std.proofs.lemmas.List.FromFn.{get_or-map-range_with_len}
-use mathlib.Core.Logic.{⊎_elim}
 use Rattle.machine_protection.specs.declared.region.Region.{Region}
 use Rattle.machine_protection.specs.declared.words.Rights.TheVariants.{Device}
 use Rattle.machine_protection.specs.Regions.{holds}
@@ -31,9 +30,8 @@ use Rattle.plan_model.specs.Regions.{regions_used}
 use Rattle.plan_model.specs.Covers.{is_inside, end_of}
 use Rattle.plan_model.specs.InitialGraph.{cover_of, covers_of, initial_graph}
 use Rattle.plan_model.specs.FinalGraph.{IsMerged}
-use Rattle.plan_model.specs.Slots.{SlotUse, cover_slot, data_slot, slot_uses, slot_regions, slots_from}
+use Rattle.plan_model.specs.Slots.{SlotUse, cover_slot, data_slot, slot_uses}
 use Rattle.need_laws.specs.Reached.{IsListed}
-use Rattle.monitor_model.specs.declared.tables.CompRecord.{CompRecord}
 use Rattle.monitor_model.specs.Records.{compartment_at}
 use Rattle.monitor_model.specs.Setting.{may_load, may_store, allows_stores}
 use Rattle.machine_protection.specs.Protection.{deciding}
@@ -42,13 +40,13 @@ use Rattle.plan.specs.PlannedFirmwares.{plan}
 use Rattle.image_promises.specs.Parts.{WindowsAreOpen}
 use Rattle.image_promises.proofs.FinalGraphs.{FinalGraph}
 use Rattle.image_promises.proofs.PlannedPremises.{PlannedPremises, planned_of, final_graph_of}
+use Rattle.image_promises.proofs.PlannedSlots.{slot_limits, slots_at}
 use Rattle.image_promises.proofs.Bearing.{Bears, Borne, here, there, Written, this, behind, written_behind, borne_holds, written_stores, cover_lets, covers_harmless}
 use Rattle.image_promises.proofs.Covers.{stays_all}
 use Rattle.image_promises.proofs.CoverParts.{IsPart, AreParts}
 use Rattle.image_promises.proofs.CoverSlots.{covers_are_parts}
 use Rattle.image_promises.proofs.Compartments.{in_compartment}
 use Rattle.image_promises.proofs.Reach.{one_of}
-use Rattle.image_promises.proofs.Loans.{record_of}
 use Rattle.base_laws.proofs.Lists.{any_kept as any_filtered}
 use Rattle.plan_model.proofs.Numbers.{one_passes}
 use Rattle.plan_model.proofs.Orders.{any_in_order}
@@ -166,12 +164,9 @@ module _ (law : WindowLaws) (planned : PlannedPremises) where
   abbrev p : Program
   p = resolve w
 
-  slots_are : (2 ≤ slots_of b) × (4 + slots_of b ≤ 16)
-  slots_are = ⊎_elim (λ e. (omega (arith, e), omega (arith, e))) (λ e. (omega (arith, e), omega (arith, e))) is.board.regions
-
   uses_few : (c : ℕ) → c < f.groups.count → length (slot_uses p f (plan w n f b) c) ≤ slots_of b
   uses_few c l =
-      let most = few p (slots_of b) (initial_graph p n f.groups) f slots_are.0 is.final c l in
+      let most = few p (slots_of b) (initial_graph p n f.groups) f (slot_limits planned).0 is.final c l in
       let one = length-append (map (data_slot p f (plan w n f b) c) (regions_used f.regions c)) (map cover_slot (get_or f.covers c [])) in
       let two = length-map (regions_used f.regions c) (data_slot p f (plan w n f b) c) in
       let three = length-map (get_or f.covers c []) cover_slot in
@@ -189,10 +184,6 @@ module _ (law : WindowLaws) (planned : PlannedPremises) where
       (written_cover held given a (cover_of p q) (get_or f.covers c []) (covers_are_parts (final_graph_of planned) windows c) (omega arith) (omega (arith, s))
       (covered (final_graph_of planned) c q inn.below m used))
 
-  slots_at : (c : ℕ) → c < f.groups.count → (compartment_at (planned_tables w n f b) c).slots ≡ slots_from 4 (slots_of b) (slot_uses p f (plan w n f b) c)
-  unfolding slot_regions
-  slots_at c l = ap (λ (r : CompRecord). r.slots) (record_of p n f (plan w n f b) b c l)
-
   window_loads : (g q j : ℕ) → g < length p.funcs → has (need_of n g).periphs q ≡ true → q < length p.periphs → j < (window_at p q).size
       → may_load (planned_image w n f b) (planned_tables w n f b) (compartment_of f.groups g) ((window_at p q).base + j) ≡ true
   unfolding may_load
@@ -202,8 +193,8 @@ module _ (law : WindowLaws) (planned : PlannedPremises) where
       let inn = in_compartment p f.groups is.groups g l in
       or_right _ _
       (or_left (list_any (λ (r : Region). holds r a) (compartment_at (planned_tables w n f b) c).slots) _
-      (ap (list_any (λ (r : Region). holds r a)) (slots_at c inn.below)
-      ∙ borne_holds a (slot_uses p f (plan w n f b) c) 4 (slots_of b) (written_borne held given a (slot_uses p f (plan w n f b) c) (slots_written g q j l h m s)) (uses_few c inn.below) slots_are.1))
+      (ap (list_any (λ (r : Region). holds r a)) (slots_at planned c inn.below)
+      ∙ borne_holds a (slot_uses p f (plan w n f b) c) 4 (slots_of b) (written_borne held given a (slot_uses p f (plan w n f b) c) (slots_written g q j l h m s)) (uses_few c inn.below) (slot_limits planned).1))
 
   window_stores : (g q j : ℕ) → g < length p.funcs → has (need_of n g).periphs q ≡ true → q < length p.periphs → j < (window_at p q).size
       → may_store (planned_tables w n f b) (compartment_of f.groups g) ((window_at p q).base + j) ≡ true
@@ -212,8 +203,8 @@ module _ (law : WindowLaws) (planned : PlannedPremises) where
       let c = compartment_of f.groups g in
       let a : ℕ = (window_at p q).base + j in
       let inn = in_compartment p f.groups is.groups g l in
-      ap (λ gs. allows_stores (deciding gs a)) (slots_at c inn.below)
-      ∙ written_stores a (slot_uses p f (plan w n f b) c) 4 (slots_of b) (slots_written g q j l h m s) (uses_few c inn.below) slots_are.1
+      ap (λ gs. allows_stores (deciding gs a)) (slots_at planned c inn.below)
+      ∙ written_stores a (slot_uses p f (plan w n f b) c) 4 (slots_of b) (slots_written g q j l h m s) (uses_few c inn.below) (slot_limits planned).1
 
 pub windows_are_open : WindowLaws → WindowsAreOpen
 windows_are_open law code w n f b is = record {

@@ -1,5 +1,5 @@
 -- Each access of a peripheral is one of the acting compartment's permission.
-use Rattle.std.proofs.Common.{◌≡◌, ℕ, zero, suc, ◌<◌, inl, inr, true, List, [], ◌∷◌, length, map, get_or, Some, slice_get, refl, ap, sym, ◌∙◌, subst, arith}
+use Rattle.std.proofs.Common.{◌≡◌, ℕ, zero, suc, ◌<◌, inl, inr, true, List, [], ◌∷◌, length, map, get_or, Some, slice_get, ap, sym, ◌∙◌, subst, arith}
 use Rattle.std.proofs.lemmas.List.{length-map}
 use Rattle.machine_model.specs.Confinement.{AnyOf}
 use Rattle.machine_devices.specs.declared.image.Window.{Window}
@@ -21,6 +21,7 @@ use Rattle.image_promises.specs.Permissions.{IsOf, IsOnPeripherals, IsPermitted,
 use Rattle.monitor_runs.proofs.Windows.{high, window_at as place_window}
 use Rattle.image_runs.specs.Isolated.{AccessesArePermitted}
 use Rattle.image_promises.proofs.PlannedPremises.{PlannedPremises}
+use Rattle.image_promises.proofs.Windows.{periphs_are}
 use Rattle.image_runs.proofs.KeptRuns.{KeptRun}
 
 -- a window of the list is that of its peripheral
@@ -38,18 +39,14 @@ module _ (planned : PlannedPremises) (slots : SlotsArePermitted planned.firmware
   abbrev t : Tables
   t = planned_tables w n f b
 
-  periphs_are : (resolve w).periphs ≡ map numbers.window_of w.periphs
-  unfolding resolve
-  periphs_are = refl
-
   -- the address of a location of a window is one of that peripheral's
   in_cover : (a q offset : ℕ) → location i a ≡ InWindow q offset → (q < length (resolve w).periphs) × IsOf (cover_of (resolve w) q) a
   in_cover a q offset e =
       let z = place_window i a q offset e in
       let r = window_found w.periphs q z.window (ap (λ (ws : List Window). slice_get ws q) (sym board.windows) ∙ z.is_window) in
-      let base : z.window.base ≡ (window_at (resolve w) q).base = r.1 ∙ ap (λ (ps : List NumberedWindow). (get_or ps q no_window).base) (sym periphs_are) in
-      let size : z.window.size ≡ (window_at (resolve w) q).size = r.2 ∙ ap (λ (ps : List NumberedWindow). (get_or ps q no_window).size) (sym periphs_are) in
-      let count : length (resolve w).periphs ≡ length w.periphs = ap length periphs_are ∙ length-map w.periphs numbers.window_of in
+      let base : z.window.base ≡ (window_at (resolve w) q).base = r.1 ∙ ap (λ (ps : List NumberedWindow). (get_or ps q no_window).base) (sym (periphs_are w)) in
+      let size : z.window.size ≡ (window_at (resolve w) q).size = r.2 ∙ ap (λ (ps : List NumberedWindow). (get_or ps q no_window).size) (sym (periphs_are w)) in
+      let count : length (resolve w).periphs ≡ length w.periphs = ap length (periphs_are w) ∙ length-map w.periphs numbers.window_of in
       let at = z.is_at in
       let lt = z.inside in
       let few = r.0 in

@@ -18,7 +18,7 @@ use Rattle.image_promises.proofs.FlashBack.{off_all}
 use Rattle.image_promises.proofs.FlashParts.{code_count, code_size_is, tables_size_is}
 use Rattle.image_promises.proofs.Facts.{laid, tables_block_is, code_blocks_count, code_block_is}
 use Rattle.image_promises.proofs.ReadBack.{ReadLaws}
-use Rattle.image_promises.proofs.AreaEnd.{some_compartment, end_is}
+use Rattle.image_promises.proofs.AreaEnd.{end_is, has_compartments}
 use Rattle.image_runs.specs.OtherCode.{KeepsTables}
 use Rattle.image_runs.specs.ReplacedCode.{with_block, CodeKeepsTables}
 
@@ -41,13 +41,10 @@ module _ (law : ReadLaws) (typing : TypedOverNumbers) (planned : PlannedPremises
   unfolding tables_of
   base_is = refl
 
-  some : 0 < f.groups.count
-  some = some_compartment p f.groups ok.groups (let m = (typing w ok.typed ok.within).main in omega (arith, m))
-
   -- in front of the end of the tables' block
   ends : area_end t ≤ l.tables.base + l.tables.size
   ends =
-      let e = end_is law.counts p n f l b some in
+      let e = end_is law.counts p n f l b (has_compartments typing planned) in
       let h = (tables_block_is law.plans planned).1 in
       let z = tables_size_is p f s b in
       let d = base_is in

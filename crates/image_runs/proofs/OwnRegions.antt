@@ -1,28 +1,23 @@
 -- Each byte of RAM in a compartment's slots is of the block of one of its data regions.
-use Rattle.std.proofs.Common.{◌≡◌, ℕ, ◌<◌, ◌≤◌, ◌+◌, ◌%◌, Bool, true, false, [], length, map, get_or, cond, nat_eq, refl, ap, sym, ◌∙◌, subst, lit<, arith}
+use Rattle.std.proofs.Common.{◌≡◌, ℕ, ◌<◌, ◌≤◌, ◌%◌, Bool, true, false, [], length, map, get_or, sym, ◌∙◌, subst, lit<, arith}
 use Rattle.std.proofs.lemmas.Bool.{cases_lt}
 use Rattle.std.proofs.lemmas.List.{get_or_past}
-use Rattle.std.proofs.lemmas.List.FromFn.{get_or-map-range_with_len, length-map-range_with_len}
+use Rattle.std.proofs.lemmas.List.FromFn.{length-map-range_with_len}
 use Rattle.std.proofs.Math.Pow.{pow_mono}
 use mathlib.Core.Logic.{⊎_elim}
 use Rattle.machine_model.specs.Confinement.{AnyOf}
 use Rattle.machine_protection.specs.declared.region.Region.{Region}
-use Rattle.machine_protection.specs.declared.region.Access.TheVariants.{Write}
-use Rattle.machine_protection.specs.declared.words.Rights.TheVariants.{Ram, Background, Device}
-use Rattle.machine_protection.specs.Regions.{holds, permission, allows}
-use Rattle.machine_protection.specs.RegionWords.{region_of}
+use Rattle.machine_protection.specs.declared.words.Rights.TheVariants.{Device}
+use Rattle.machine_protection.specs.Regions.{holds}
 use Rattle.base_laws.specs.Lists.{Each}
 use Rattle.ir_model.specs.Resolve.{resolve}
 use Rattle.ir_model.specs.Resolved.{Program}
 use Rattle.plan_model.specs.declared.graph.Cover.{Cover}
 use Rattle.plan_model.specs.declared.plan.Plan.{Plan}
-use Rattle.plan_model.specs.declared.plan.Spot.{Spot}
 use Rattle.plan_model.specs.Boards.{slots_of}
 use Rattle.plan_model.specs.Lists.{has, numbers_below}
 use Rattle.plan_model.specs.Regions.{region_at, regions_used, is_user}
-use Rattle.plan_model.specs.Blocks.{subregions_out, region_bytes}
-use Rattle.plan_model.specs.Placement.{region_spot}
-use Rattle.plan_model.specs.Slots.{SlotUse, free_slot, data_slot, cover_slot, slot_uses, slots_from, slot_regions}
+use Rattle.plan_model.specs.Slots.{SlotUse, free_slot, data_slot, cover_slot, slot_uses}
 use Rattle.monitor_model.specs.declared.tables.CompRecord.{CompRecord}
 use Rattle.monitor_model.specs.Records.{compartment_at, nobody}
 use Rattle.image_model.specs.LinkedTables.{tables_of, comp_record}
@@ -30,11 +25,12 @@ use Rattle.image_promises.specs.Planned.{planned_tables}
 use Rattle.plan.specs.PlannedFirmwares.{plan}
 use Rattle.base_laws.proofs.Lists.{each_both}
 use Rattle.image_promises.proofs.PlannedPremises.{PlannedPremises, planned_of, final_graph_of}
+use Rattle.image_promises.proofs.PlannedSlots.{slot_limits, slots_at}
 use Rattle.image_promises.proofs.Lists.{each_passing, each_map, below_all}
 use Rattle.image_promises.proofs.Bearing.{use_region}
 use Rattle.image_promises.proofs.CoverParts.{IsPart}
 use Rattle.image_promises.proofs.CoverSlots.{covers_are_parts}
-use Rattle.image_promises.proofs.DataSlots.{few_bits, slot_holds}
+use Rattle.image_promises.proofs.DataSlots.{slot_holds, Stores, writes_there}
 use Rattle.image_promises.proofs.OneSlot.{OwnSlotLaws, free_holds, one_slot}
 use Rattle.image_runs.specs.Own.{IsInRegion, SlotsAreOwn, PlannedSlotsAreOwn}
 
@@ -46,14 +42,6 @@ module _ (law : OwnSlotLaws) (planned : PlannedPremises) where
 
   abbrev l : Plan
   l = plan w n f b
-
-  slots_count : 4 + slots_of b ≤ 16
-  slots_count = ⊎_elim (λ e. omega (arith, e)) (λ e. omega (arith, e)) ok.board.regions
-
-  slots_at : (c : ℕ) → c < f.groups.count → (compartment_at (planned_tables w n f b) c).slots ≡ slots_from 4 (slots_of b) (slot_uses p f l c)
-  unfolding tables_of slot_regions
-  slots_at c m =
-      ap (λ (r : CompRecord). r.slots) (get_or-map-range_with_len (comp_record p f l (slots_of b)) 0 f.groups.count c c nobody m (let e : 0 + c ≡ c = omega arith in e))
 
   module _ (passes : ℕ → Bool) (c a : ℕ) (low : a < 0x40000000) (Q : Region → Type 0) (holds_it : (g : Region) → Q g → holds g a ≡ true)
       (is_mine : (r m : ℕ) → is_user c (region_at f.regions r) ≡ true → Q (use_region m (data_slot p f l c r)) → passes r ≡ true) where
@@ -99,7 +87,7 @@ module _ (law : OwnSlotLaws) (planned : PlannedPremises) where
         free number q = absurd (let none = free_holds a number in let wrong : false ≡ true = sym none ∙ holds_it (free_slot number) q in cc)
 
         inner : c < f.groups.count → Goal
-        inner lt = one_slot Q Goal free (slot_uses p f l c) 4 (slots_of b) slots_count all_serve (subst (AnyOf Q) (slots_at c lt) h)
+        inner lt = one_slot Q Goal free (slot_uses p f l c) 4 (slots_of b) (slot_limits planned).1 all_serve (subst (AnyOf Q) (slots_at planned c lt) h)
 
         outer : f.groups.count ≤ c → Goal
         outer le =
@@ -107,32 +95,9 @@ module _ (law : OwnSlotLaws) (planned : PlannedPremises) where
             let none = get_or_past (map (comp_record p f l (slots_of b)) (numbers_below f.groups.count)) c nobody (omega (arith, size, le)) in
             absurd (subst (λ (r : CompRecord). AnyOf Q r.slots) none h)
 
-  abbrev Stores : ℕ → Region → Type 0
-  Stores a g = (holds g a ≡ true) × (permission g ≡ 3)
-
-  -- a data region with a slot in which all may store has the compartment among its writers
-  writes_there : (c a r m : ℕ) → Stores a (use_region m (data_slot p f l c r)) → has (region_at f.regions r).writers c ≡ true
-  writes_there c a r m (h, ap_is) = by (has (region_at f.regions r).writers c) refl
-    where
-      spot : Spot
-      spot = region_spot l r
-
-      out : ℕ
-      out = subregions_out spot.size (region_bytes p (region_at f.regions r).globals)
-
-      lets : allows (use_region m (data_slot p f l c r)) true Write ≡ true
-      lets = ap (λ k. nat_eq k 3) ap_is
-
-      by : (t : Bool) → has (region_at f.regions r).writers c ≡ t → has (region_at f.regions r).writers c ≡ true
-      by true e = e
-      by false e =
-          let off = ap (λ t. allows (region_of m spot.base spot.size out (cond t Ram Background)) true Write) e
-          ∙ law.of_data.given m spot.base spot.size out Background (few_bits spot.size (region_bytes p (region_at f.regions r).globals)) true Write in
-          absurd (let wrong : true ≡ false = sym lets ∙ off in cc)
-
   slots_are_own : SlotsAreOwn w n f b
   slots_are_own = record {
-    stores = λ c a h low. slot_serves (λ r. has (region_at f.regions r).writers c) c a low (Stores a) (λ g q. q.0) (λ r m user q. writes_there c a r m q) h;
+    stores = λ c a h low. slot_serves (λ r. has (region_at f.regions r).writers c) c a low (Stores a) (λ g q. q.0) (λ r m user q. writes_there law.of_data planned c a r m q) h;
     loads = λ c a h low. slot_serves (λ r. is_user c (region_at f.regions r)) c a low (λ (g : Region). holds g a ≡ true) (λ g q. q) (λ r m user q. user) h;
   }
 

@@ -10,7 +10,7 @@ use Rattle.plan_model.specs.Blocks.{region_bytes}
 use Rattle.plan_model.specs.Lists.{has}
 use Rattle.plan_model.specs.Placement.{region_spot}
 use Rattle.plan_model.specs.Regions.{region_at}
-use Rattle.plan_model.specs.RamBlocks.{RamUse, ForStack, ForMonitor, ForRegion}
+use Rattle.plan_model.specs.RamBlocks.{ForStack, ForMonitor, ForRegion}
 use Rattle.plan_layout_laws.specs.RamLaws.{HoldsAddress}
 use Rattle.monitor_model.specs.declared.tables.Tables.{Tables}
 use Rattle.monitor_model.specs.BlockWords.{current}
@@ -21,17 +21,13 @@ use Rattle.image_promises.specs.Planned.{planned_tables}
 use Rattle.plan.specs.PlannedFirmwares.{plan, planned_sizes}
 use Rattle.image_promises.proofs.PlannedPremises.{PlannedPremises}
 use Rattle.image_promises.proofs.Facts.{PlanLaws, monitor_size_is}
-use Rattle.image_promises.proofs.Ranges.{IsUse, block_in, block_size_is}
+use Rattle.image_promises.proofs.Ranges.{IsUse, block_in, block_size_is, number_of}
 use Rattle.image_promises.proofs.GlobalPlaces.{same_or_other}
 use Rattle.image_promises.proofs.OneSlot.{open_within}
 use Rattle.monitor_runs.specs.Acts.{OnStack, IsWritable}
 use Rattle.monitor_runs.specs.Stays.{KeepsMemory}
 use Rattle.image_runs.specs.Own.{SlotsAreOwn}
 use Rattle.image_runs.specs.Isolated.{RegionsStay}
-
-abbrev number_of : RamUse → ℕ
-number_of (ForRegion r) = r
-number_of _ = 0
 
 module _ (law : PlanLaws) (planned : PlannedPremises) (own : SlotsAreOwn planned.firmware planned.needs planned.final planned.board) where
   open planned use {firmware as w, needs as n, final as f, board as b, is_planned as ok}

@@ -1,8 +1,8 @@
 -- No address of devices in a compartment's slots is denied, where a firmware asks for nothing that is.
-use Rattle.std.proofs.Common.{◌≡◌, ℕ, suc, ◌<◌, ◌≤◌, ◌+◌, ◌%◌, true, false, List, [], ◌∷◌, length, map, get_or, ap, sym, ◌∙◌, subst, lit<, arith}
+use Rattle.std.proofs.Common.{◌≡◌, ℕ, suc, ◌<◌, ◌≤◌, ◌+◌, ◌%◌, true, false, List, [], ◌∷◌, length, map, get_or, sym, ◌∙◌, subst, lit<, arith}
 use Rattle.std.proofs.lemmas.Bool.{cases_lt}
 use Rattle.std.proofs.lemmas.List.{get_or_past}
-use Rattle.std.proofs.lemmas.List.FromFn.{get_or-map-range_with_len, length-map-range_with_len}
+use Rattle.std.proofs.lemmas.List.FromFn.{length-map-range_with_len}
 use Rattle.std.proofs.Math.Pow.{pow_mono}
 use mathlib.Core.Logic.{⊎_elim}
 use Rattle.machine_model.specs.Confinement.{AnyOf}
@@ -22,7 +22,7 @@ use Rattle.plan_model.specs.Lists.{numbers_below}
 use Rattle.plan_model.specs.Regions.{region_at, regions_used, is_user}
 use Rattle.plan_model.specs.RamBlocks.{ForRegion}
 use Rattle.plan_model.specs.Placement.{region_spot}
-use Rattle.plan_model.specs.Slots.{SlotUse, free_slot, data_slot, cover_slot, slot_uses, slots_from, slot_regions}
+use Rattle.plan_model.specs.Slots.{SlotUse, free_slot, data_slot, cover_slot, slot_uses}
 use Rattle.plan_layout_laws.specs.RamLaws.{HoldsAddress}
 use Rattle.monitor_model.specs.declared.tables.CompRecord.{CompRecord}
 use Rattle.monitor_model.specs.Records.{compartment_at, nobody}
@@ -30,6 +30,7 @@ use Rattle.image_model.specs.LinkedTables.{tables_of, comp_record}
 use Rattle.image_promises.specs.Planned.{planned_tables}
 use Rattle.plan.specs.PlannedFirmwares.{plan}
 use Rattle.image_promises.proofs.PlannedPremises.{PlannedPremises, final_graph_of}
+use Rattle.image_promises.proofs.PlannedSlots.{slot_limits, slots_at}
 use Rattle.image_promises.proofs.Ranges.{IsUse, block_in, block_size_is}
 use Rattle.image_promises.proofs.Lists.{each_passing, each_map, below_all}
 use Rattle.image_promises.proofs.Bearing.{use_region}
@@ -55,14 +56,6 @@ module _ (law : OwnSlotLaws) (planned : PlannedPremises) (ds : List Denied) (off
 
   abbrev l : Plan
   l = plan w n f b
-
-  slots_count : 4 + slots_of b ≤ 16
-  slots_count = ⊎_elim (λ e. omega (arith, e)) (λ e. omega (arith, e)) ok.board.regions
-
-  slots_at : (c : ℕ) → c < f.groups.count → (compartment_at (planned_tables w n f b) c).slots ≡ slots_from 4 (slots_of b) (slot_uses p f l c)
-  unfolding tables_of slot_regions
-  slots_at c m =
-      ap (λ (r : CompRecord). r.slots) (get_or-map-range_with_len (comp_record p f l (slots_of b)) 0 f.groups.count c c nobody m (let e : 0 + c ≡ c = omega arith in e))
 
   module _ (c a : ℕ) (high : 0x40000000 ≤ a) where
     abbrev Goal : Type 0
@@ -124,7 +117,7 @@ module _ (law : OwnSlotLaws) (planned : PlannedPremises) (ds : List Denied) (off
         free number q = absurd (let none = free_holds a number in let wrong : false ≡ true = sym none ∙ q in cc)
 
         inner : c < f.groups.count → Goal
-        inner lt = one_slot Q Goal free (slot_uses p f l c) 4 (slots_of b) slots_count (all_serve lt) (subst (AnyOf Q) (slots_at c lt) h)
+        inner lt = one_slot Q Goal free (slot_uses p f l c) 4 (slots_of b) (slot_limits planned).1 (all_serve lt) (subst (AnyOf Q) (slots_at planned c lt) h)
 
         outer : f.groups.count ≤ c → Goal
         outer le =
