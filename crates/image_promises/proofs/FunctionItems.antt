@@ -6,6 +6,7 @@ use Rattle.machine_thumb.specs.declared.table.Instr.TheVariants.{BranchLink}
 use Rattle.machine_thumb.specs.Table.{IsOffset}
 use Rattle.machine_thumb.specs.Bytes.{EachInTable}
 use Rattle.machine_thumb.proofs.Codes.{in_table-append}
+use Rattle.machine_thumb.proofs.Offsets.{two_offset}
 use Rattle.machine_thumb_asm.specs.declared.item.Item.{Item}
 use Rattle.machine_thumb_asm.specs.declared.item.Item.TheVariants.{Half}
 use Rattle.machine_thumb_asm.specs.Assembly.{total}
@@ -30,7 +31,7 @@ use Rattle.code_model.specs.FunctionCode.{lent, block_pieces, blocks_pieces, fun
 use Rattle.code_model.specs.Laws.{SizesHold}
 use Rattle.image_promises.proofs.Passing.{and_yes, le_yes, lt_yes}
 use Rattle.image_promises.proofs.Encodable.{Encodable, encodable-append, plain_encodable, offset_in}
-use Rattle.image_promises.proofs.TemplateCode.{LendsFit, load_in, store_in, address_in, supervisor_in, word_in, save_in, const_in, move_in, bin_in, cmp_in, two_offset, elem_in, field_in, loads_in, stores_to_in, args_in, callee_in, enter_in, leave_in}
+use Rattle.image_promises.proofs.TemplateCode.{LendsFit, load_in, store_in, address_in, supervisor_in, word_in, save_in, const_in, move_in, bin_in, cmp_in, elem_in, field_in, loads_in, stores_to_in, args_in, callee_in, enter_in, leave_in}
 use Rattle.machine_thumb_asm.proofs.Items.{total-append}
 use Rattle.code_model.proofs.Filling.{args_total}
 use Rattle.code_model.proofs.FunctionSizes.{block_total}

@@ -1,8 +1,6 @@
 -- The leave stub of a sound image stands in flash, in the tables' block.
-use Rattle.std.proofs.Common.{◌≡◌, ℕ, pos, ◌+◌, ◌-◌, ◌≤◌, List, ◌++◌, length, get_or, replicate, refl, sym, ap, ap₂, ◌∙◌, subst, arith, length-append, append_assoc}
-use Rattle.std.specs.Int.Signed.{le_z_yes, lt_z_yes}
-use Rattle.machine_thumb.specs.Table.{IsOffset}
-use Rattle.machine_thumb.specs.Bytes.{code_bytes, EachInTable}
+use Rattle.std.proofs.Common.{◌≡◌, ℕ, ◌+◌, ◌-◌, ◌≤◌, List, ◌++◌, length, get_or, replicate, sym, ap, ap₂, ◌∙◌, subst, arith, length-append, append_assoc}
+use Rattle.machine_thumb.specs.Bytes.{code_bytes}
 use Rattle.machine_thumb.proofs.Codes.{code_bytes-append}
 use Rattle.machine_devices.specs.declared.image.Image.{Image}
 use Rattle.machine_devices.specs.Rules.{ObeysRules}
@@ -21,16 +19,11 @@ use Rattle.monitor_model.specs.Placed.{Placed}
 use Rattle.monitor_program.specs.Reset.{reset}
 use Rattle.monitor_program.specs.Svc.{svc}
 use Rattle.monitor_program.specs.TheCode.{monitor_code}
+use Rattle.monitor_program.proofs.Fields.{stub_in}
 use Rattle.monitor_model.specs.Threads as threads
 use Rattle.monitor_sound.specs.Accesses.{StubStands}
 use Rattle.monitor_sound.proofs.Audited.{Audited}
 use Rattle.monitor_laws.proofs.PageCode.{middle}
-
-no_offset : IsOffset 2048 (pos 0)
-no_offset = record { from = le_z_yes tt; below = lt_z_yes tt; even = refl }
-
-stub_in : EachInTable leave_stub
-stub_in = ((omega arith, omega arith, no_offset, λ e. refl, λ e. absurd (omega (arith, e))), tt)
 
 -- lists joined in another order
 four_joined : (f a b c s g r : List ℕ) → ((f ++ (a ++ (b ++ (c ++ s)))) ++ g) ++ r ≡ (f ++ (a ++ (b ++ c))) ++ (s ++ (g ++ r))
