@@ -187,6 +187,10 @@ module _ (i : Image) (t : Tables) (stub : ℕ) (s : State) (m : MonitorBlock) (p
       may_load : (a : ℕ) → psp ≤ a → a < psp + 32 → LoadFor i t s a
       may_load a lo hi = let e = c.at in let l = f.low in let h = frame_before f in ForStack (omega (arith, lo, e, l), omega (arith, hi, e, h))
 
+  -- the frame lies in RAM
+  pub offset_low : o < 2 ^ 31
+  offset_low = let x = c.fits in let y = c.placed.rules.ram_most in omega (arith, x, y)
+
   block_room : b + 1024 ≤ length memory
   block_room = let a = c.placed.block_inside.0 in let z = c.placed.block_inside.1 in let l = c.as_long in omega (arith, a, z, l)
 
