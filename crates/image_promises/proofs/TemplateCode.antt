@@ -2,7 +2,7 @@
 use Rattle.std.proofs.Common.{◌≡◌, ℕ, zero, suc, pos, ◌+◌, ◌-◌, ◌^◌, ◌<◌, ◌≤◌, Bool, true, false, List, [], ◌∷◌, length, get_or, nat_le, Option, Some, None, refl, arith}
 use Rattle.std.proofs.lemmas.Bool.Decides.{nat_tests}
 use Rattle.machine_thumb.specs.declared.table.Instr.TheVariants.{CallBranch}
-use Rattle.machine_thumb.specs.Table.{InTable, IsGeneral}
+use Rattle.machine_thumb.specs.Table.{InTable, IsGeneral, svc}
 use Rattle.machine_thumb.specs.Bytes.{EachInTable}
 use Rattle.machine_thumb.proofs.Codes.{in_table-append}
 use Rattle.machine_thumb.proofs.Offsets.{no_offset, two_offset}
@@ -12,7 +12,7 @@ use Rattle.ir_model.specs.declared.firmware.BinOp.TheVariants as bin
 use Rattle.ir_model.specs.declared.firmware.CmpOp.{CmpOp}
 use Rattle.ir_model.specs.declared.firmware.CmpOp.TheVariants as cmp
 use Rattle.code_model.specs.Places.{Lend}
-use Rattle.code_model.specs.Words.{load_home, store_home, save_code, home_address, byte_into, word_into, supervisor_call}
+use Rattle.code_model.specs.Words.{load_home, store_home, save_code, home_address, byte_into, word_into}
 use Rattle.code_model.specs.Numbers.{const_code, move_code, operation, bin_code}
 use Rattle.code_model.specs.Comparisons.{condition, cmp_code}
 use Rattle.code_model.specs.Addresses.{scale_of, elem_code, field_code, load_at, store_at, load_code, store_code}
@@ -34,7 +34,7 @@ address_in d k a b = (omega arith, omega arith, a, b, λ e. absurd (omega (arith
 pub byte_in : (d n : ℕ) → d < 8 → n < 256 → InTable (byte_into d n)
 byte_in d n a b = (omega arith, a, b)
 
-pub supervisor_in : (n : ℕ) → n < 256 → InTable (supervisor_call n)
+pub supervisor_in : (n : ℕ) → n < 256 → InTable (svc n)
 supervisor_in n l = (omega arith, l, no_offset, λ e. refl, λ e. absurd (omega (arith, e)))
 
 general : (d : ℕ) → d < 13 → IsGeneral d

@@ -1,5 +1,5 @@
 -- Behind the handler of MemManage: it has made an access that a loan allows.
-use Rattle.std.proofs.Common.{◌≡◌, ℕ, ◌+◌, ◌-◌, ◌*◌, ◌%◌, ◌^◌, ◌<◌, ◌≤◌, inl, inr, Bool, true, false, ◌&&◌, List, length, nat_eq, refl, sym, ap, ap₂, ◌∙◌, subst, arith}
+use Rattle.std.proofs.Common.{◌≡◌, ℕ, ◌+◌, ◌-◌, ◌*◌, ◌%◌, ◌^◌, ◌<◌, ◌≤◌, inl, inr, Bool, true, false, ◌&&◌, List, length, nat_eq, refl, sym, ap, ◌∙◌, subst, arith}
 use Rattle.std.proofs.lemmas.Bool.{eqb-true}
 use Rattle.base_words.specs.Bytes.{read, write}
 use Rattle.base_words.proofs.Bytes.{length-write, read_above}
@@ -8,7 +8,7 @@ use Rattle.machine_devices.specs.declared.image.Image.{Image}
 use Rattle.machine_model.specs.declared.state.FaultStatus.{FaultStatus}
 use Rattle.machine_model.specs.State.{State, by_mpu, low_register}
 use Rattle.machine_model.specs.Code.{HoldsHalf}
-use Rattle.machine_model.specs.Exceptions.{frame_at, unstacked, is_frame_open, mem_manage}
+use Rattle.machine_model.specs.Exceptions.{frame_at, is_frame_open, mem_manage}
 use Rattle.machine_model.specs.Step.{step, turn}
 use Rattle.machine_model.specs.ThreadStep.{ThreadStep}
 use Rattle.monitor_model.specs.declared.tables.Tables.{Tables}
@@ -17,7 +17,7 @@ use Rattle.monitor_model.specs.Placed.{Placed}
 use Rattle.monitor_model.specs.Block.{MonitorBlock}
 use Rattle.monitor_model.specs.Invariant.{InvariantHolds}
 use Rattle.monitor_model.specs.Handlers.{Change, Emulates, IsFault, at_memfault}
-use Rattle.monitor_model.specs.Outcomes.{Outcome, Halts, StopsUnaligned, Resumes, frame_in, with_stacked, moved_on, is_open}
+use Rattle.monitor_model.specs.Outcomes.{Outcome, Halts, StopsUnaligned, Resumes, with_stacked, moved_on, is_open}
 use Rattle.monitor_model.specs.FaultOutcome.{value, address, is_lent, if_aligned, emulated_store, emulated_load, by_half, is_data_fault, fault_outcome}
 use Rattle.monitor_model.specs.MonitorLaw.{GoesOn}
 use Rattle.monitor_confined.proofs.EntryWords.{FrameLaws, flash_low}

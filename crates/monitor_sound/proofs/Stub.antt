@@ -1,5 +1,6 @@
 -- The leave stub of a sound image stands in flash, in the tables' block.
 use Rattle.std.proofs.Common.{◌≡◌, ℕ, ◌+◌, ◌-◌, ◌≤◌, List, ◌++◌, length, get_or, replicate, sym, ap, ap₂, ◌∙◌, subst, arith, length-append, append_assoc}
+use Rattle.machine_thumb.specs.Table as table
 use Rattle.machine_thumb.specs.Bytes.{code_bytes}
 use Rattle.machine_thumb.proofs.Codes.{code_bytes-append}
 use Rattle.machine_devices.specs.declared.image.Image.{Image}
@@ -20,7 +21,6 @@ use Rattle.monitor_program.specs.Reset.{reset}
 use Rattle.monitor_program.specs.Svc.{svc}
 use Rattle.monitor_program.specs.TheCode.{monitor_code}
 use Rattle.monitor_program.proofs.Fields.{stub_in}
-use Rattle.monitor_model.specs.Threads as threads
 use Rattle.monitor_sound.specs.Accesses.{StubStands}
 use Rattle.monitor_sound.proofs.Audited.{Audited}
 use Rattle.monitor_laws.proofs.PageCode.{middle}
@@ -84,7 +84,7 @@ module _ (i : Image) (t : Tables) (rules : ObeysRules i) (rest : List ℕ) (has 
           let o = before_length in
           omega (arith, a, b, l, o)
 
-  pub stub_lies : BytesAreCode → Lies i (i.flash_base + stub_offset k) (threads.svc 1)
+  pub stub_lies : BytesAreCode → Lies i (i.flash_base + stub_offset k) (table.svc 1)
   stub_lies law = (law i (stub_offset k) leave_stub rules stub_in holds_stub).0
 
 page_room : (t : Tables) → area_end t ≤ t.base + tables_size t → 4096 ≤ tables_size t
@@ -100,5 +100,5 @@ stub_stands law fits there i t rules p a =
     record {
       from_base = omega arith;
       inside = omega (arith, z, b, big);
-      lies = subst (λ (n : ℕ). Lies i n (threads.svc 1)) at (stub_lies i t rules a.behind a.has_page law);
+      lies = subst (λ (n : ℕ). Lies i n (table.svc 1)) at (stub_lies i t rules a.behind a.has_page law);
     }
