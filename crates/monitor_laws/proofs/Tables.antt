@@ -61,7 +61,7 @@ stack_size z p = size_by z p.0 p.3 (nine_to_sixteen p.0 p.1 p.2)
 
 -- the stack's, where the tables are those of the board
 pub size_of_stack : {i : Image} {t : Tables} → Placed i t → StackSize t.stack.size
-size_of_stack {t = t} p = stack_size t.stack.size (subst (λ z. IsPowerBetween 9 16 z) (sym p.stack_size) p.stack.size)
+size_of_stack {i} {t} p = stack_size t.stack.size (subst (λ z. IsPowerBetween 9 16 z) (sym p.stack_size) p.stack.size)
 
 -- ---- the words of a compartment
 

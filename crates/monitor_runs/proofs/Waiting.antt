@@ -15,6 +15,7 @@ use Rattle.monitor_model.specs.Placed.{Placed}
 use Rattle.monitor_model.specs.Block.{MonitorBlock}
 use Rattle.monitor_model.specs.Invariant.{InvariantHolds}
 use Rattle.monitor_model.specs.Outcomes.{frame_in, stacked, with_stacked, moved_on}
+use Rattle.monitor_model.specs.MonitorLaw.{GoesOn}
 use Rattle.monitor_confined.proofs.EntryWords.{FrameLaws, frame, frame_offset, entered_ram, entered_length, frame_word}
 use Rattle.monitor_runs.specs.Moves.{GoesOnAt}
 
