@@ -1,14 +1,5 @@
 -- Items of lists by their places, with any item beyond the last.
 use Rattle.std.proofs.Common.{◌≡◌, ℕ, zero, suc, ◌<◌, List, [], ◌∷◌, length, get_or, refl, arith}
-use Rattle.monitor_model.specs.declared.tables.TargetRecord.{TargetRecord}
-use Rattle.monitor_model.specs.declared.tables.InitRecord.{InitRecord}
-
--- beyond the last target and the last range
-abbrev pub no_target : TargetRecord
-no_target = record { entry = 0; compartment = 0 }
-
-abbrev pub no_init : InitRecord
-no_init = record { at = 0; end = 0; from = 0 }
 
 -- what is beyond the last does not matter to an item that is there
 pub any_beyond : {X : Type 0} (xs : List X) (i : ℕ) (d e : X) → i < length xs → get_or xs i d ≡ get_or xs i e

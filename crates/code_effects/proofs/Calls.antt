@@ -4,6 +4,7 @@ use Rattle.std.proofs.Common.{◌≡◌, ℕ, suc, ◌+◌, ◌*◌, ◌%◌, �
 use Rattle.base_laws.specs.Lists.{EachBelow}
 use Rattle.base_words.specs.Arithmetic.{moved}
 use Rattle.machine_thumb.specs.declared.table.Instr.TheVariants.{BranchLink, BranchExchange}
+use Rattle.machine_thumb.specs.Table.{svc}
 use Rattle.machine_thumb_asm.specs.declared.item.Item.TheVariants.{Half}
 use Rattle.machine_thumb_asm.specs.Assembly.{total}
 use Rattle.machine_thumb_asm.specs.Finished.{distance}
@@ -20,7 +21,7 @@ use Rattle.machine_model.proofs.Constants.{word_into_r12}
 use Rattle.ir_model.specs.Resolved.{NumberedFunc, Call, ICall}
 use Rattle.code_model.specs.declared.places.Places.{Places}
 use Rattle.code_model.specs.Places.{entry_address}
-use Rattle.code_model.specs.Words.{save_code, supervisor_call, plain}
+use Rattle.code_model.specs.Words.{save_code, plain}
 use Rattle.code_model.specs.Calls.{args_code, call_code, cross_code, icall_code, icross_code}
 use Rattle.code_model.specs.Templates.{inst_items}
 use Rattle.code_model.specs.Sizes.{save_size, call_size, icall_size, inst_size}
@@ -74,7 +75,7 @@ module _ (j : PermissionTest) (i : Image) (p : Point) (o n : ℕ) where
       Leads j i (length as_ + 2) p (record p { context = with_r12 p.context (entry + 1); registers = known (homes o p as_); pc = p.pc + (8 + 2 * length as_) }) []
   cross_by entry as_ room below few five fits code = leads_by j i (length as_ + 2) p _ [] (λ a b c rest f l.
       let x : Context = with_r12 p.context (entry + 1) in
-      let cs = code_at-append j i p.context.protection (args_code 0 as_) (supervisor_call 0 ∷ []) (p.pc + 4 + 4) code.1.1 in
+      let cs = code_at-append j i p.context.protection (args_code 0 as_) (svc 0 ∷ []) (p.pc + 4 + 4) code.1.1 in
       let z = args_size 0 as_ in
       let r = args j i x (a ∷ b ∷ c ∷ rest) 0 o n p.sp p.lr (p.pc + 4 + 4) f as_ p.ram p.queues room (omega arith) (omega arith) below cs.0 in
       let count : 2 + length as_ ≡ length as_ + 2 = omega arith in
@@ -89,7 +90,7 @@ module _ (j : PermissionTest) (i : Image) (p : Point) (o n : ℕ) where
   icross_by h as_ room lh below few code = leads_by j i (length as_ + 2) p _ [] (λ a b c rest f l.
       let v : ℕ = home o p h in
       let x : Context = with_r12 p.context v in
-      let cs = code_at-append j i p.context.protection (args_code 0 as_) (supervisor_call 0 ∷ []) (p.pc + 2 + 2) code.1.1 in
+      let cs = code_at-append j i p.context.protection (args_code 0 as_) (svc 0 ∷ []) (p.pc + 2 + 2) code.1.1 in
       let z = args_size 0 as_ in
       let r = args j i x (v ∷ b ∷ c ∷ rest) 0 o n p.sp p.lr (p.pc + 2 + 2) f as_ p.ram p.queues room (omega arith) (omega arith) below cs.0 in
       let count : suc (suc (length as_)) ≡ length as_ + 2 = omega arith in
@@ -119,13 +120,13 @@ call_code_size : (as_ : List ℕ) (d : ℤ) → code_size (call_code as_ d) ≡ 
 call_code_size as_ d = omega (arith, code_size-append (args_code 0 as_) (BranchLink d ∷ []), args_size 0 as_)
 
 cross_code_size : (e : ℕ) (as_ : List ℕ) → code_size (cross_code e as_) ≡ 8 + 2 * length as_ + 2
-cross_code_size e as_ = omega (arith, code_size-append (args_code 0 as_) (supervisor_call 0 ∷ []), args_size 0 as_)
+cross_code_size e as_ = omega (arith, code_size-append (args_code 0 as_) (svc 0 ∷ []), args_size 0 as_)
 
 icall_code_size : (h : ℕ) (as_ : List ℕ) → code_size (icall_code h as_) ≡ 4 + 2 * length as_ + 2
 icall_code_size h as_ = omega (arith, code_size-append (args_code 0 as_) (BranchExchange 1 12 ∷ []), args_size 0 as_)
 
 icross_code_size : (h : ℕ) (as_ : List ℕ) → code_size (icross_code h as_) ≡ 4 + 2 * length as_ + 2
-icross_code_size h as_ = omega (arith, code_size-append (args_code 0 as_) (supervisor_call 0 ∷ []), args_size 0 as_)
+icross_code_size h as_ = omega (arith, code_size-append (args_code 0 as_) (svc 0 ∷ []), args_size 0 as_)
 
 -- ---- the templates
 
@@ -160,12 +161,12 @@ module _ (j : PermissionTest) (i : Image) (g : NumberedFunc) (q : Places) (label
   cross_stands at s to f as_ code =
       let e : ℕ = entry_address q f in
       let c = code_first j i p.context.protection labels (cross_code e as_) (Half s ∷ plain (save_code to)) at code in
-      let d = code_at-append j i p.context.protection (args_code 0 as_) (supervisor_call 0 ∷ []) (at + 4 + 4) c.0.1.1 in
+      let d = code_at-append j i p.context.protection (args_code 0 as_) (svc 0 ∷ []) (at + 4 + 4) c.0.1.1 in
       let z = args_size 0 as_ in
       let w = cross_code_size e as_ in
       let y : at + 4 + 4 + code_size (args_code 0 as_) ≡ at + (8 + 2 * length as_) = omega arith in
       let u : at + code_size (cross_code e as_) ≡ at + (8 + 2 * length as_) + 2 = omega arith in
-      (subst (λ (a : ℕ). Stands j i p.context.protection a (supervisor_call 0)) y d.1.0, subst (λ (a : ℕ). HoldsHalf i a s) u c.1.0)
+      (subst (λ (a : ℕ). Stands j i p.context.protection a (svc 0)) y d.1.0, subst (λ (a : ℕ). HoldsHalf i a s) u c.1.0)
 
   the_icross : (s : ℕ) (to : Option ℕ) (h : ℕ) (args : List ℕ) → HasFrame j i p o n → h < n → EachBelow n args → length args ≤ 4 → HasInst j i g q labels p p.pc (Some s) (ICall to h args) →
       Leads j i (length args + 2) p (record p { context = with_r12 p.context (home o p h); registers = known (homes o p args); pc = p.pc + (4 + 2 * length args) }) []
@@ -177,12 +178,12 @@ module _ (j : PermissionTest) (i : Image) (g : NumberedFunc) (q : Places) (label
   unfolding inst_items
   icross_stands at s to h as_ code =
       let c = code_first j i p.context.protection labels (icross_code h as_) (Half s ∷ plain (save_code to)) at code in
-      let d = code_at-append j i p.context.protection (args_code 0 as_) (supervisor_call 0 ∷ []) (at + 2 + 2) c.0.1.1 in
+      let d = code_at-append j i p.context.protection (args_code 0 as_) (svc 0 ∷ []) (at + 2 + 2) c.0.1.1 in
       let z = args_size 0 as_ in
       let w = icross_code_size h as_ in
       let y : at + 2 + 2 + code_size (args_code 0 as_) ≡ at + (4 + 2 * length as_) = omega arith in
       let u : at + code_size (icross_code h as_) ≡ at + (4 + 2 * length as_) + 2 = omega arith in
-      (subst (λ (a : ℕ). Stands j i p.context.protection a (supervisor_call 0)) y d.1.0, subst (λ (a : ℕ). HoldsHalf i a s) u c.1.0)
+      (subst (λ (a : ℕ). Stands j i p.context.protection a (svc 0)) y d.1.0, subst (λ (a : ℕ). HoldsHalf i a s) u c.1.0)
 
   call_returned : (at : ℕ) (site to : Option ℕ) (f v : ℕ) (args : List ℕ) → HasFrame j i p o n → IsBelow n to → HasInst j i g q labels p at site (Call to f args) →
       Leads j i (keep_steps to) (record p { registers = known (v ∷ []); pc = at + call_size (is_some site) args })

@@ -8,6 +8,7 @@ use Rattle.base_words.specs.declared.conditions.Flags.{Flags}
 use Rattle.base_words.specs.Flags.{result_flags}
 use Rattle.machine_thumb.specs.declared.table.Instr.{Instr}
 use Rattle.machine_thumb.specs.declared.table.Instr.TheVariants.{PushPop}
+use Rattle.machine_thumb.specs.Table.{svc}
 use Rattle.machine_devices.specs.declared.image.Image.{Image}
 use Rattle.machine_model.specs.declared.state.ProtectionState.{ProtectionState}
 use Rattle.machine_model.specs.State.{State, PermissionTest}
@@ -24,7 +25,7 @@ use Rattle.ir_model.specs.Signatures.{row_length}
 use Rattle.code_model.specs.declared.places.Places.{Places}
 use Rattle.code_model.specs.FrameShape.{frame_shape}
 use Rattle.code_model.specs.Places.{Lend}
-use Rattle.code_model.specs.Words.{byte_into, home_address, supervisor_call}
+use Rattle.code_model.specs.Words.{byte_into, home_address}
 use Rattle.code_model.specs.Entry.{sub_by, stores_code, frame_code, lend_code, enter_code}
 use Rattle.code_model.specs.Templates.{lends_of}
 use Rattle.code_model.specs.Sizes.{adjust_size, entry_size}
@@ -248,30 +249,30 @@ module _ (j : PermissionTest) (i : Image) (g : NumberedFunc) (q : Places) (label
   -- ---- lends
 
   lend_at : (ds : List Lend) (k at : ℕ) → k < length ds → CodeAt j i p.context.protection at (lend_code ds) →
-      CodeAt j i p.context.protection (at + 6 * k) (home_address 0 (get_or ds k no_lend).home ∷ byte_into 1 (get_or ds k no_lend).number ∷ supervisor_call 2 ∷ [])
+      CodeAt j i p.context.protection (at + 6 * k) (home_address 0 (get_or ds k no_lend).home ∷ byte_into 1 (get_or ds k no_lend).number ∷ svc 2 ∷ [])
   lend_at [] k at l code = absurd (omega arith)
   lend_at (d ∷ ds) zero at l code =
       let z : at ≡ at + 0 = omega arith in
-      subst (λ (a : ℕ). CodeAt j i p.context.protection a (home_address 0 d.home ∷ byte_into 1 d.number ∷ supervisor_call 2 ∷ [])) z (code.0, (code.1.0, (code.1.1.0, tt)))
+      subst (λ (a : ℕ). CodeAt j i p.context.protection a (home_address 0 d.home ∷ byte_into 1 d.number ∷ svc 2 ∷ [])) z (code.0, (code.1.0, (code.1.1.0, tt)))
   lend_at (d ∷ ds) (suc k) at l code =
       let e : Lend = get_or ds k no_lend in
       let z : at + 2 + 2 + 2 + 6 * k ≡ at + 6 * suc k = omega arith in
-      subst (λ (a : ℕ). CodeAt j i p.context.protection a (home_address 0 e.home ∷ byte_into 1 e.number ∷ supervisor_call 2 ∷ [])) z (lend_at ds k (at + 2 + 2 + 2) (omega arith) code.1.1.1)
+      subst (λ (a : ℕ). CodeAt j i p.context.protection a (home_address 0 e.home ∷ byte_into 1 e.number ∷ svc 2 ∷ [])) z (lend_at ds k (at + 2 + 2 + 2) (omega arith) code.1.1.1)
 
   entry_goes_on : (k : ℕ) → entry_size g k ≡ code_size (frame_code (row_length g.params) (frame_shape g).words) + 6 * k
   unfolding entry_size
   entry_goes_on k = let e = frame_size (row_length g.params) (frame_shape g).words in omega arith
 
   this_lend : (at k : ℕ) → k < length (lends_of g q) → HasEntry j i g q labels p at →
-      CodeAt j i p.context.protection (at + entry_size g k) (home_address 0 (get_or (lends_of g q) k no_lend).home ∷ byte_into 1 (get_or (lends_of g q) k no_lend).number ∷ supervisor_call 2 ∷ [])
+      CodeAt j i p.context.protection (at + entry_size g k) (home_address 0 (get_or (lends_of g q) k no_lend).home ∷ byte_into 1 (get_or (lends_of g q) k no_lend).number ∷ svc 2 ∷ [])
   this_lend at k l code =
       let d : Lend = get_or (lends_of g q) k no_lend in
       let n : ℕ = code_size (frame_code (row_length g.params) (frame_shape g).words) in
       let e = entry_goes_on k in
       let z : at + n + 6 * k ≡ at + entry_size g k = omega arith in
-      subst (λ (a : ℕ). CodeAt j i p.context.protection a (home_address 0 d.home ∷ byte_into 1 d.number ∷ supervisor_call 2 ∷ [])) z (lend_at (lends_of g q) k (at + n) l (entry_code_at at code).1)
+      subst (λ (a : ℕ). CodeAt j i p.context.protection a (home_address 0 d.home ∷ byte_into 1 d.number ∷ svc 2 ∷ [])) z (lend_at (lends_of g q) k (at + n) l (entry_code_at at code).1)
 
-  lend_by : (at home number : ℕ) → p.sp + 4 * home < 2 ^ 32 → CodeAt j i p.context.protection at (home_address 0 home ∷ byte_into 1 number ∷ supervisor_call 2 ∷ []) →
+  lend_by : (at home number : ℕ) → p.sp + 4 * home < 2 ^ 32 → CodeAt j i p.context.protection at (home_address 0 home ∷ byte_into 1 number ∷ svc 2 ∷ []) →
       Leads j i 2 (record p { pc = at }) (record p { registers = known ((p.sp + 4 * home) ∷ number ∷ []); pc = at + 4 }) []
   lend_by at home number fits code =
       let v : ℕ = p.sp + 4 * home in
@@ -280,10 +281,10 @@ module _ (j : PermissionTest) (i : Image) (g : NumberedFunc) (q : Places) (label
       (next_step (add_d_sp j i p.context (a ∷ b ∷ c ∷ rest) p.sp p.lr at f p.ram p.queues 0 home fits code.0)
       (next_step (movs j i p.context (v ∷ b ∷ c ∷ rest) p.sp p.lr (at + 2) f p.ram p.queues 1 number code.1.0) (stay j i))))
 
-  lend_here : (at k : ℕ) → k < length (lends_of g q) → HasEntry j i g q labels p at → Stands j i p.context.protection (at + entry_size g k + 4) (supervisor_call 2)
+  lend_here : (at k : ℕ) → k < length (lends_of g q) → HasEntry j i g q labels p at → Stands j i p.context.protection (at + entry_size g k + 4) (svc 2)
   lend_here at k l code =
       let z : at + entry_size g k + 2 + 2 ≡ at + entry_size g k + 4 = omega arith in
-      subst (λ (a : ℕ). Stands j i p.context.protection a (supervisor_call 2)) z (this_lend at k l code).1.1.0
+      subst (λ (a : ℕ). Stands j i p.context.protection a (svc 2)) z (this_lend at k l code).1.1.0
 
   lend_behind : (at k : ℕ) → at + entry_size g k + 4 + 2 ≡ at + entry_size g (suc k)
   lend_behind at k = omega (arith, entry_goes_on k, entry_goes_on (suc k))

@@ -3,6 +3,7 @@ use Rattle.std.proofs.Common.{◌≡◌, ℕ, ◌+◌, ◌-◌, ◌*◌, ◌%◌
 use Rattle.std.proofs.lemmas.Bool.{cases_lt}
 use Rattle.std.proofs.lemmas.Bool.Decides.{nat_tests}
 use Rattle.machine_thumb.specs.declared.table.Instr.TheVariants.{PushPop}
+use Rattle.machine_thumb.specs.Table.{svc}
 use Rattle.machine_devices.specs.declared.image.Image.{Image}
 use Rattle.machine_model.specs.State.{PermissionTest}
 use Rattle.machine_model.specs.Code.{Stands, CodeAt}
@@ -14,7 +15,6 @@ use Rattle.ir_model.specs.Resolved.{NumberedFunc, Ret}
 use Rattle.code_model.specs.declared.places.Places.{Places}
 use Rattle.code_model.specs.FrameShape.{frame_shape}
 use Rattle.code_model.specs.Places.{Lend}
-use Rattle.code_model.specs.Words.{supervisor_call}
 use Rattle.code_model.specs.Entry.{add_by, add_code, unlend_code, result_code, leave_code}
 use Rattle.code_model.specs.Templates.{lends_of, term_items}
 use Rattle.code_model.specs.FunctionCode.{lent}
@@ -29,19 +29,19 @@ use Rattle.code_effects.proofs.Registers.{holds_by, holds_nothing}
 
 unlend_size : (ds : List Lend) → code_size (unlend_code ds) ≡ 2 * length ds
 unlend_size [] = refl
-unlend_size (d ∷ ds) = omega (arith, unlend_size ds, code_size-append (unlend_code ds) (supervisor_call 3 ∷ []))
+unlend_size (d ∷ ds) = omega (arith, unlend_size ds, code_size-append (unlend_code ds) (svc 3 ∷ []))
 
 module _ (j : PermissionTest) (i : Image) (p : Point) where
-  unlend_at : (ds : List Lend) (k at : ℕ) → k < length ds → CodeAt j i p.context.protection at (unlend_code ds) → Stands j i p.context.protection (at + 2 * k) (supervisor_call 3)
+  unlend_at : (ds : List Lend) (k at : ℕ) → k < length ds → CodeAt j i p.context.protection at (unlend_code ds) → Stands j i p.context.protection (at + 2 * k) (svc 3)
   unlend_at [] k at l code = absurd (omega arith)
   unlend_at (d ∷ ds) k at l code =
-      let c = code_at-append j i p.context.protection (unlend_code ds) (supervisor_call 3 ∷ []) at code in
+      let c = code_at-append j i p.context.protection (unlend_code ds) (svc 3 ∷ []) at code in
       let s = unlend_size ds in
       elim (cases_lt k (length ds)) [
         | inl lt ↦ unlend_at ds k at lt c.0
         | inr le ↦
             let z : at + code_size (unlend_code ds) ≡ at + 2 * k = omega arith in
-            subst (λ (a : ℕ). Stands j i p.context.protection a (supervisor_call 3)) z c.1.0
+            subst (λ (a : ℕ). Stands j i p.context.protection a (svc 3)) z c.1.0
       ]
 
 module _ (j : PermissionTest) (i : Image) (p : Point) (o w : ℕ) where
@@ -84,7 +84,7 @@ module _ (j : PermissionTest) (i : Image) (p : Point) (o w : ℕ) where
       }
 
 module _ (j : PermissionTest) (i : Image) (g : NumberedFunc) (q : Places) (labels : List (Option ℕ)) (first : ℕ) (p : Point) (o at : ℕ) where
-  unlend_here : (r : Option ℕ) (k : ℕ) → k < lent g q → HasTerm j i g q labels first p at (Ret r) → Stands j i p.context.protection (at + 2 * k) (supervisor_call 3)
+  unlend_here : (r : Option ℕ) (k : ℕ) → k < lent g q → HasTerm j i g q labels first p at (Ret r) → Stands j i p.context.protection (at + 2 * k) (svc 3)
   unfolding term_items
   unlend_here r k l code =
       let w : ℕ = (frame_shape g).words in

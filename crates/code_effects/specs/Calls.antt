@@ -4,13 +4,13 @@
 use Rattle.std.specs.Prelude.{◌≡◌, ℕ, ◌+◌, ◌*◌, ◌%◌, ◌^◌, ◌<◌, ◌≤◌, List, [], ◌∷◌, length, map, Option, Some, None, is_some, false}
 use Rattle.base_laws.specs.Lists.{EachBelow}
 use Rattle.base_words.specs.Bytes.{write}
+use Rattle.machine_thumb.specs.Table.{svc}
 use Rattle.machine_devices.specs.declared.image.Image.{Image}
 use Rattle.machine_model.specs.State.{PermissionTest}
 use Rattle.machine_model.specs.Code.{HoldsHalf, Stands}
 use Rattle.ir_model.specs.Resolved.{NumberedFunc, Call, ICall}
 use Rattle.code_model.specs.declared.places.Places.{Places}
 use Rattle.code_model.specs.Places.{entry_address}
-use Rattle.code_model.specs.Words.{supervisor_call}
 use Rattle.code_model.specs.Sizes.{call_size, icall_size, inst_size}
 use Rattle.code_effects.specs.Points.{Point, known, with_r12, Leads}
 use Rattle.code_effects.specs.Frames.{HasFrame, home, HasInst}
@@ -33,7 +33,7 @@ keep_steps (Some k) = 1
 
 -- SVC #0 with the number of its site behind it
 abbrev pub HasCrossing : PermissionTest → Image → Point → (at site : ℕ) → Type 0
-HasCrossing j i p at s = Stands j i p.context.protection at (supervisor_call 0) × HoldsHalf i (at + 2) s
+HasCrossing j i p at s = Stands j i p.context.protection at (svc 0) × HoldsHalf i (at + 2) s
 
 module _ (j : PermissionTest) (i : Image) (g : NumberedFunc) (q : Places) (labels : List (Option ℕ)) (p : Point) (o n : ℕ) where
   -- within the compartment: at the callee's entry, with the arguments from r0 on and the return address, its bit 0 set, in LR

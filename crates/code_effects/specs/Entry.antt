@@ -3,6 +3,7 @@
 use Rattle.std.specs.Prelude.{◌≡◌, ℕ, suc, ◌+◌, ◌*◌, ◌^◌, ◌<◌, ◌≤◌, ◌⊎◌, List, [], ◌∷◌, length, Option, nat_le, if◌then◌else◌}
 use Rattle.std.proofs.Math.ListN.{get_or}
 use Rattle.base_words.specs.Bytes.{read, cut}
+use Rattle.machine_thumb.specs.Table.{svc}
 use Rattle.machine_devices.specs.declared.image.Image.{Image}
 use Rattle.machine_model.specs.State.{PermissionTest}
 use Rattle.machine_model.specs.Code.{Stands}
@@ -12,7 +13,6 @@ use Rattle.ir_model.specs.Signatures.{row_length}
 use Rattle.code_model.specs.declared.places.Places.{Places}
 use Rattle.code_model.specs.FrameShape.{frame_shape}
 use Rattle.code_model.specs.Places.{Lend}
-use Rattle.code_model.specs.Words.{supervisor_call}
 use Rattle.code_model.specs.Templates.{lends_of}
 use Rattle.code_model.specs.Sizes.{entry_size}
 use Rattle.code_effects.specs.Points.{Point, known, Leads}
@@ -49,6 +49,6 @@ module _ (j : PermissionTest) (i : Image) (g : NumberedFunc) (q : Places) (label
     pub lend : (at k : ℕ) → k < length (lends_of g q) → p.sp + 4 * (get_or (lends_of g q) k no_lend).home < 2 ^ 32 → HasEntry j i g q labels p at →
         Leads j i 2 (record p { pc = at + entry_size g k })
         (record p { registers = known ((p.sp + 4 * (get_or (lends_of g q) k no_lend).home) ∷ (get_or (lends_of g q) k no_lend).number ∷ []); pc = at + entry_size g k + 4 }) []
-    pub lend_stands : (at k : ℕ) → k < length (lends_of g q) → HasEntry j i g q labels p at → Stands j i p.context.protection (at + entry_size g k + 4) (supervisor_call 2)
+    pub lend_stands : (at k : ℕ) → k < length (lends_of g q) → HasEntry j i g q labels p at → Stands j i p.context.protection (at + entry_size g k + 4) (svc 2)
     -- behind it the next lend begins, or the first block
     pub next_lend : (at k : ℕ) → at + entry_size g k + 4 + 2 ≡ at + entry_size g (suc k)

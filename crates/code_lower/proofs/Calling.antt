@@ -3,10 +3,11 @@ use Rattle.machine_thumb.specs.declared.table.Instr.TheVariants.{BranchExchange,
 use Rattle.std.proofs.Common.{◌≡◌, ℕ, ℤ, suc, ◌+◌, ◌%◌, ◌<◌, ◌≤◌, ◌^◌, Option, None, List, [], ◌∷◌, ◌++◌, length, get_or, drop, ap, sym, ◌∙◌, arith, append_assoc}
 use Rattle.std.proofs.lemmas.List.{drop_more}
 use Rattle.machine_thumb.specs.declared.table.Instr.{Instr}
+use Rattle.machine_thumb.specs.Table.{svc}
 use Rattle.machine_thumb_asm.specs.declared.item.Item.{Item}
 use Rattle.machine_thumb_asm.specs.declared.item.Item.TheVariants.{Half}
 use Rattle.machine_thumb_asm.specs.Assembly.{Assembly, here, total}
-use Rattle.code_model.specs.Words.{plain, load_home, save_code, word_into, supervisor_call}
+use Rattle.code_model.specs.Words.{plain, load_home, save_code, word_into}
 use Rattle.code_model.specs.Calls.{args_code, call_code, cross_code, callee_code, icall_code, icross_code, call_items}
 use Rattle.code_model.specs.Emitted.{with_more, HasRoom, IsNear}
 use Rattle.code_model.proofs.PieceSizes.{call_items_total}
@@ -43,12 +44,12 @@ near_call_parts as_ d to =
 
 -- what is left behind the arguments of a call that may go to another compartment
 abbrev pub crossing : (site : ℕ) → Option ℕ → List Item
-crossing s to = (plain (supervisor_call 0 ∷ []) ++ Half s ∷ []) ++ plain (save_code to)
+crossing s to = (plain (svc 0 ∷ []) ++ Half s ∷ []) ++ plain (save_code to)
 
-crossed : (code : List Instr) (s : ℕ) (to : Option ℕ) → plain (code ++ supervisor_call 0 ∷ []) ++ Half s ∷ plain (save_code to) ≡ plain code ++ crossing s to
+crossed : (code : List Instr) (s : ℕ) (to : Option ℕ) → plain (code ++ svc 0 ∷ []) ++ Half s ∷ plain (save_code to) ≡ plain code ++ crossing s to
 crossed code s to =
-    ap (λ xs. xs ++ Half s ∷ plain (save_code to)) (plain-append code (supervisor_call 0 ∷ []))
-    ∙ append_assoc (plain code) (plain (supervisor_call 0 ∷ [])) (Half s ∷ plain (save_code to))
+    ap (λ xs. xs ++ Half s ∷ plain (save_code to)) (plain-append code (svc 0 ∷ []))
+    ∙ append_assoc (plain code) (plain (svc 0 ∷ [])) (Half s ∷ plain (save_code to))
 
 pub far_call_parts : (e s : ℕ) (as_ : List ℕ) (to : Option ℕ) →
     plain (cross_code e as_) ++ Half s ∷ plain (save_code to) ≡ plain (word_into 12 (e + 1)) ++ (plain (args_code 0 as_) ++ crossing s to)

@@ -3,9 +3,10 @@ use Rattle.std.proofs.Common.{◌≡◌, ℕ, suc, ◌+◌, ◌-◌, ◌<◌, Li
 use Rattle.std.proofs.lemmas.List.{drop_more}
 use Rattle.machine_thumb.specs.declared.table.Instr.{Instr}
 use Rattle.machine_thumb.specs.declared.table.Instr.TheVariants.{PushPop}
+use Rattle.machine_thumb.specs.Table.{svc}
 use Rattle.code_lower.specs.declared.subject.Lent.{Lent}
 use Rattle.code_model.specs.Places.{Lend}
-use Rattle.code_model.specs.Words.{plain, store_home, home_address, byte_into, supervisor_call}
+use Rattle.code_model.specs.Words.{plain, store_home, home_address, byte_into}
 use Rattle.code_model.specs.Entry.{sub_code, add_code, stores_code, frame_code, lend_code, unlend_code, result_code, leave_code}
 use Rattle.code_lower.specs.Subjects.{lend_of}
 use Rattle.code_lower.proofs.Putting.{plain-append}
@@ -18,18 +19,18 @@ stores_next t w k l =
 
 -- one loan
 abbrev pub loan_code : Lend → List Instr
-loan_code d = home_address 0 d.home ∷ byte_into 1 d.number ∷ supervisor_call 2 ∷ []
+loan_code d = home_address 0 d.home ∷ byte_into 1 d.number ∷ svc 2 ∷ []
 
 -- all are alike, so the last is as the first
-unlends_turn : (ds : List Lend) → unlend_code ds ++ supervisor_call 3 ∷ [] ≡ supervisor_call 3 ∷ unlend_code ds
+unlends_turn : (ds : List Lend) → unlend_code ds ++ svc 3 ∷ [] ≡ svc 3 ∷ unlend_code ds
 unlends_turn [] = refl
-unlends_turn (d ∷ ds) = ap (λ xs. xs ++ supervisor_call 3 ∷ []) (unlends_turn ds)
+unlends_turn (d ∷ ds) = ap (λ xs. xs ++ svc 3 ∷ []) (unlends_turn ds)
 
 module _ (ls : List Lent) (i : ℕ) (d : Lent) (l : i < length ls) where
   pub lends_next : lend_code (map lend_of (drop i ls)) ≡ loan_code (lend_of (get_or ls i d)) ++ lend_code (map lend_of (drop (i + 1) ls))
   lends_next = ap (λ xs. lend_code (map lend_of xs)) (drop_more ls i d l)
 
-  pub unlends_next : unlend_code (map lend_of (drop i ls)) ≡ (supervisor_call 3 ∷ []) ++ unlend_code (map lend_of (drop (i + 1) ls))
+  pub unlends_next : unlend_code (map lend_of (drop i ls)) ≡ (svc 3 ∷ []) ++ unlend_code (map lend_of (drop (i + 1) ls))
   unlends_next = ap (λ xs. unlend_code (map lend_of xs)) (drop_more ls i d l) ∙ unlends_turn (map lend_of (drop (i + 1) ls))
 
 -- the code of a frame, and of a return, in parts

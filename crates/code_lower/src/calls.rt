@@ -2,12 +2,11 @@
 
 ghost use Rattle.std.specs.Prelude.{◌≡◌, ◌+◌, ◌%◌, ◌<◌, ◌≤◌, ◌^◌, [], ◌∷◌, ◌++◌, length, IfSome, OnOk};
 ghost use Rattle.std.specs.List.{All};
-ghost use Rattle.machine_thumb.specs.Table.{InTable};
+ghost use Rattle.machine_thumb.specs.Table.{InTable, svc};
 ghost use Rattle.machine_thumb.specs.declared.table.Instr.TheVariants.{BranchLink};
 ghost use Rattle.machine_thumb_asm.specs.declared.item.Item.TheVariants.{Half};
 ghost use Rattle.machine_thumb_asm.specs.Assembly.{here, total};
 ghost use Rattle.machine_thumb_asm.specs.Finished as finished;
-ghost use Rattle.code_model.specs.Words as word;
 ghost use Rattle.code_model.specs.Words.{plain, save_code};
 ghost use Rattle.code_model.specs.Calls.{args_code, cross_code, callee_code, icall_code, icross_code, call_items, icall_items};
 ghost use Rattle.code_model.specs.Emitted.{with_more, HasRoom, IsNear};
@@ -96,8 +95,8 @@ fn put_near_call(
 /// SVC #0 and behind it the number of the call's site.
 fn put_crossing(asm: &mut Asm, site: u32) -> Result<(), AllocError>
     requires few { site < site_limit }
-    requires room { HasRoom asm.old (plain (word.supervisor_call 0 ∷ []) ++ Half site ∷ []) }
-    ensures { OnOk result (asm.new ≡ with_more asm.old (plain (word.supervisor_call 0 ∷ []) ++ Half site ∷ [])) }
+    requires room { HasRoom asm.old (plain (svc 0 ∷ []) ++ Half site ∷ []) }
+    ensures { OnOk result (asm.new ≡ with_more asm.old (plain (svc 0 ∷ []) ++ Half site ∷ [])) }
 {
     put(asm, &[supervisor_call(0)])?;
     asm.half(site as u16)

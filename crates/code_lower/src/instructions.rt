@@ -1,7 +1,7 @@
 //! The instructions that all templates are made of, and how code is put.
 
 ghost use Rattle.std.specs.Prelude.{◌≡◌, ◌<◌, OnOk};
-ghost use Rattle.machine_thumb.specs.Table.{InTable};
+ghost use Rattle.machine_thumb.specs.Table.{InTable, svc};
 ghost use Rattle.machine_thumb.specs.Bytes.{EachInTable};
 ghost use Rattle.code_model.specs.Words as word;
 ghost use Rattle.code_model.specs.Words.{plain};
@@ -93,7 +93,7 @@ pub(crate) fn word_into(d: u8, n: u32) -> [Instr; 2]
 
 /// SVC #n
 pub(crate) fn supervisor_call(n: u8) -> Instr
-    ensures code { result ≡ word.supervisor_call n }
+    ensures code { result ≡ svc n }
     ensures in_table { InTable result }
 {
     Instr::CallBranch {

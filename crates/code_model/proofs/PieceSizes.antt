@@ -1,7 +1,7 @@
 -- The code of each instruction, of each block's end and of an entry has the size that is told without addresses.
 use Rattle.std.proofs.Common.{◌≡◌, ℕ, ℤ, zero, suc, ◌+◌, ◌*◌, ◌-◌, List, [], ◌∷◌, ◌++◌, length, Bool, true, false, Option, Some, None, nat_le, refl, arith}
 use Rattle.std.specs.Prelude.{is_some}
-use Rattle.machine_thumb.specs.Table.{encode}
+use Rattle.machine_thumb.specs.Table.{encode, svc}
 use Rattle.machine_thumb.specs.declared.table.Instr.{Instr}
 use Rattle.machine_thumb.specs.declared.table.Instr.TheVariants.{BranchLink, BranchExchange, PushPop}
 use Rattle.machine_thumb_asm.specs.declared.item.Item.TheVariants.{Half}
@@ -16,7 +16,7 @@ use Rattle.ir_model.specs.Signatures.{row_length}
 use Rattle.code_model.specs.declared.places.Places.{Places}
 use Rattle.code_model.specs.FrameShape.{FrameShape, frame_shape}
 use Rattle.code_model.specs.Places.{Lend, entry_address}
-use Rattle.code_model.specs.Words.{plain, save_code, word_into, supervisor_call, byte_into}
+use Rattle.code_model.specs.Words.{plain, save_code, word_into, byte_into}
 use Rattle.code_model.specs.Numbers.{bin_code}
 use Rattle.code_model.specs.Addresses.{addr_code, load_code, store_code}
 use Rattle.code_model.specs.Calls.{args_code, call_code, cross_code, callee_code, icall_code, icross_code, call_items, icall_items}
@@ -84,7 +84,7 @@ pub cross_total : (e : ℕ) (as_ : List ℕ) → total (plain (cross_code e as_)
 unfolding encode
 cross_total e as_ =
     let a = args_total 0 as_ in
-    let b = total-plain-append (word_into 12 (e + 1) ++ args_code 0 as_) (supervisor_call 0 ∷ []) in
+    let b = total-plain-append (word_into 12 (e + 1) ++ args_code 0 as_) (svc 0 ∷ []) in
     omega arith
 
 icall_total : (h : ℕ) (as_ : List ℕ) → total (plain (icall_code h as_)) ≡ 4 + 2 * length as_ + 2
@@ -93,7 +93,7 @@ icall_total h as_ = let a = args_total 0 as_ in let b = total-plain-append (call
 
 pub icross_total : (h : ℕ) (as_ : List ℕ) → total (plain (icross_code h as_)) ≡ 4 + 2 * length as_ + 2
 unfolding encode
-icross_total h as_ = let a = args_total 0 as_ in let b = total-plain-append (callee_code h as_) (supervisor_call 0 ∷ []) in omega arith
+icross_total h as_ = let a = args_total 0 as_ in let b = total-plain-append (callee_code h as_) (svc 0 ∷ []) in omega arith
 
 pub call_items_total : (at e : ℕ) (s to : Option ℕ) (as_ : List ℕ) → total (call_items at e s to as_) ≡ call_size (is_some s) as_ + save_size to
 call_items_total at e None to as_ =
@@ -171,7 +171,7 @@ unfolding encode
 unlend_total [] = refl
 unlend_total (d ∷ ds) =
     let h = unlend_total ds in
-    let a = total-plain-append (unlend_code ds) (supervisor_call 3 ∷ []) in
+    let a = total-plain-append (unlend_code ds) (svc 3 ∷ []) in
     omega arith
 
 result_total : (r : Option ℕ) → total (plain (result_code r)) ≡ save_size r

@@ -3,11 +3,12 @@
 use Rattle.std.specs.Prelude.{ℕ, ℤ, suc, ◌+◌, List, [], ◌∷◌, ◌++◌, Option, Some, None}
 use Rattle.machine_thumb.specs.declared.table.Instr.{Instr}
 use Rattle.machine_thumb.specs.declared.table.Instr.TheVariants.{HighRegister, BranchExchange, BranchLink}
+use Rattle.machine_thumb.specs.Table.{svc}
 use Rattle.machine_thumb_asm.specs.declared.item.Item.{Item}
 use Rattle.machine_thumb_asm.specs.declared.item.Item.TheVariants.{Half}
 use Rattle.machine_thumb_asm.specs.Assembly.{total}
 use Rattle.machine_thumb_asm.specs.Finished.{distance}
-use Rattle.code_model.specs.Words.{load_home, save_code, word_into, supervisor_call, plain}
+use Rattle.code_model.specs.Words.{load_home, save_code, word_into, plain}
 
 -- LDR of these words of the frame into registers from this one on
 abbrev pub args_code : (register : ℕ) → List ℕ → List Instr
@@ -19,7 +20,7 @@ abbrev pub call_code : (args : List ℕ) → ℤ → List Instr
 call_code args offset = args_code 0 args ++ BranchLink offset ∷ []
 
 abbrev pub cross_code : (entry : ℕ) → (args : List ℕ) → List Instr
-cross_code entry args = (word_into 12 (entry + 1) ++ args_code 0 args) ++ supervisor_call 0 ∷ []
+cross_code entry args = (word_into 12 (entry + 1) ++ args_code 0 args) ++ svc 0 ∷ []
 
 -- LDR r0 and MOV r12, r0: the function whose address a register of the function holds
 abbrev pub callee_code : (callee : ℕ) → (args : List ℕ) → List Instr
@@ -30,7 +31,7 @@ abbrev pub icall_code : (callee : ℕ) → (args : List ℕ) → List Instr
 icall_code h args = callee_code h args ++ BranchExchange 1 12 ∷ []
 
 abbrev pub icross_code : (callee : ℕ) → (args : List ℕ) → List Instr
-icross_code h args = callee_code h args ++ supervisor_call 0 ∷ []
+icross_code h args = callee_code h args ++ svc 0 ∷ []
 
 -- the call of a function with this entry, at an address; `site` is the call's site where it may go to another compartment
 abbrev pub call_items : (at entry : ℕ) → (site to : Option ℕ) → (args : List ℕ) → List Item

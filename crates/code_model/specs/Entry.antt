@@ -3,8 +3,9 @@
 use Rattle.std.specs.Prelude.{ℕ, zero, suc, ◌-◌, List, [], ◌∷◌, ◌++◌, Bool, true, false, Option, Some, None, nat_le}
 use Rattle.machine_thumb.specs.declared.table.Instr.{Instr}
 use Rattle.machine_thumb.specs.declared.table.Instr.TheVariants.{AdjustStack, PushPop}
+use Rattle.machine_thumb.specs.Table.{svc}
 use Rattle.code_model.specs.Places.{Lend}
-use Rattle.code_model.specs.Words.{load_home, store_home, byte_into, home_address, supervisor_call}
+use Rattle.code_model.specs.Words.{load_home, store_home, byte_into, home_address}
 
 -- SUB SP and ADD SP by so many words: one instruction reaches 127 words, and two the largest frame
 abbrev pub sub_by : (once : Bool) → (words : ℕ) → List Instr
@@ -33,7 +34,7 @@ frame_code n w = (PushPop 0 1 0 0 ∷ sub_code w) ++ (stores_code (λ k. k) n 0 
 -- ADD r0, SP; MOVS r1, #number; SVC #2, for each
 abbrev pub lend_code : List Lend → List Instr
 lend_code [] = []
-lend_code (d ∷ ds) = home_address 0 d.home ∷ byte_into 1 d.number ∷ supervisor_call 2 ∷ lend_code ds
+lend_code (d ∷ ds) = home_address 0 d.home ∷ byte_into 1 d.number ∷ svc 2 ∷ lend_code ds
 
 abbrev pub enter_code : (params words : ℕ) → List Lend → List Instr
 enter_code n w ds = frame_code n w ++ lend_code ds
@@ -41,7 +42,7 @@ enter_code n w ds = frame_code n w ++ lend_code ds
 -- SVC #3, the last one first
 abbrev pub unlend_code : List Lend → List Instr
 unlend_code [] = []
-unlend_code (d ∷ ds) = unlend_code ds ++ supervisor_call 3 ∷ []
+unlend_code (d ∷ ds) = unlend_code ds ++ svc 3 ∷ []
 
 abbrev pub result_code : Option ℕ → List Instr
 result_code None = []

@@ -1,9 +1,9 @@
 -- The instructions that all templates are made of. A frame's words are numbered from the stack pointer on: word k of it is
 -- register k of the function, where it has that register. Code uses r0 to r3 and r12 alone, and nothing is kept in them
 -- between two instructions of the firmware.
-use Rattle.std.specs.Prelude.{ℕ, ◌/◌, ◌%◌, ◌^◌, pos, List, [], ◌∷◌, map, Option, Some, None}
+use Rattle.std.specs.Prelude.{ℕ, ◌/◌, ◌%◌, ◌^◌, List, [], ◌∷◌, map, Option, Some, None}
 use Rattle.machine_thumb.specs.declared.table.Instr.{Instr}
-use Rattle.machine_thumb.specs.declared.table.Instr.TheVariants.{DataImmediate, StackRelative, CallBranch, MoveWide, MoveTop}
+use Rattle.machine_thumb.specs.declared.table.Instr.TheVariants.{DataImmediate, StackRelative, MoveWide, MoveTop}
 use Rattle.machine_thumb_asm.specs.declared.item.Item.{Item}
 use Rattle.machine_thumb_asm.specs.declared.item.Item.TheVariants.{Plain}
 
@@ -35,10 +35,6 @@ byte_into d n = DataImmediate 0 d n
 -- MOVW and MOVT: a word into a register
 abbrev pub word_into : (d n : ℕ) → List Instr
 word_into d n = MoveWide d (n % 2 ^ 16) ∷ MoveTop d (n / 2 ^ 16) ∷ []
-
--- SVC #n
-abbrev pub supervisor_call : ℕ → Instr
-supervisor_call n = CallBranch 0 n (pos 0)
 
 -- instructions as pieces of an assembly
 abbrev pub plain : List Instr → List Item

@@ -5,9 +5,11 @@ use Rattle.base_words.specs.Bytes.{write_all, read}
 use Rattle.machine_protection.specs.declared.region.Region.{Region}
 use Rattle.machine_protection.specs.Registers.{blank}
 use Rattle.machine_devices.specs.declared.image.Image.{Image}
+use Rattle.machine_model.specs.State.{by_mpu}
 use Rattle.machine_model.specs.Stack.{words_at}
+use Rattle.monitor_steps.specs.Steps.{PrivilegedSteps}
 use Rattle.monitor_steps.specs.Core.{Core}
-use Rattle.monitor_steps.specs.Effect.{Outcome, Went, Halted, AtReturn, AtBranch, Stopped, Unclaimed}
+use Rattle.monitor_steps.specs.Effect.{Outcome, effect, Went, Halted, AtReturn, AtBranch, Stopped, Unclaimed}
 use Rattle.monitor_program.specs.Page.{bytes_of_words}
 use Rattle.example_monitor.specs.Sample.{region}
 
@@ -39,6 +41,10 @@ image = record {
   closed = false;
   windows = [];
 }
+
+-- what a list does there
+abbrev pub does : PrivilegedSteps → Core → Outcome
+does s c = effect by_mpu image s c
 
 -- RAM with the words of the monitor's block, its loans, and the frame at PSP
 abbrev pub ram : (block loans : List ℕ) → (psp : ℕ) → (frame : List ℕ) → List ℕ

@@ -5,7 +5,8 @@ use Rattle.std.proofs.Math.ListN.{set}
 use Rattle.monitor_model.specs.Block.{MonitorBlock}
 use Rattle.monitor_model.specs.Outcomes.{Outcome, Halts, StopsAtBus, Resumes}
 use Rattle.monitor_model.specs.SvcOutcome.{svc_outcome}
-use Rattle.example_monitor.specs.LentImage.{bytes_of, tables, image}
+use Rattle.monitor_program.specs.Page.{bytes_of_words}
+use Rattle.example_monitor.specs.LentImage.{tables, image}
 use Rattle.example_monitor.specs.Stack.{stack_with, frame_of, main_runs, main_saved, loan, two_calls}
 
 -- SVC n of main, whose frame lies 1,984 bytes above the stack's base
@@ -24,11 +25,11 @@ pub record ComputesCalls : Type 0 where
   -- raised
   pub enters : from_main 0 main_runs calling ≡
       Resumes (record { current = 1; top = 0x20000700; mark = 0; saved = main_saved ∷ []; loans = [] }) 0x200006E0
-      (bytes_of (replicate 440 0 ++ (1 ∷ 2 ∷ 3 ∷ 4 ∷ 0 ∷ 0x08000FF1 ∷ 0x08002080 ∷ 0x01000000 ∷ replicate 48 0) ++ (frame_of 1 2 0x08002081 0x08002028 ++ replicate 8 0)))
+      (bytes_of_words (replicate 440 0 ++ (1 ∷ 2 ∷ 3 ∷ 4 ∷ 0 ∷ 0x08000FF1 ∷ 0x08002080 ∷ 0x01000000 ∷ replicate 48 0) ++ (frame_of 1 2 0x08002081 0x08002028 ++ replicate 8 0)))
   -- its mark is then the number of loans
   pub enters_lent : from_main 0 (record main_runs { loans = loan ∷ [] }) calling ≡
       Resumes (record { current = 1; top = 0x20000700; mark = 1; saved = main_saved ∷ []; loans = loan ∷ [] }) 0x200006E0
-      (bytes_of (replicate 440 0 ++ (1 ∷ 2 ∷ 3 ∷ 4 ∷ 0 ∷ 0x08000FF1 ∷ 0x08002080 ∷ 0x01000000 ∷ replicate 48 0) ++ (frame_of 1 2 0x08002081 0x08002028 ++ replicate 8 0)))
+      (bytes_of_words (replicate 440 0 ++ (1 ∷ 2 ∷ 3 ∷ 4 ∷ 0 ∷ 0x08000FF1 ∷ 0x08002080 ∷ 0x01000000 ∷ replicate 48 0) ++ (frame_of 1 2 0x08002081 0x08002028 ++ replicate 8 0)))
   -- another return address, no entry of a target of the site; a return address at which nothing lies
   pub other_site : from_main 0 main_runs (frame_of 1 2 0x08002081 0x08002028) ≡ Halts 2
   pub other_target : from_main 0 main_runs (frame_of 1 2 0x080020A1 0x08002026) ≡ Halts 3
@@ -42,9 +43,9 @@ pub record ComputesCalls : Type 0 where
   -- the end of main; and the end of compartment 2's function, whose result goes to r0 of the frame that waits
   pub main_ends : from_main 1 main_runs calling ≡ Halts 0
   pub leaves : svc_outcome image tables 0x08000FF0 two_calls 0x200005E0
-      (bytes_of (replicate 376 0 ++ (frame_of 42 2 0 0x08000FF2 ++ (replicate 52 0 ++ (frame_of 1 2 0x080020A1 0x08002096 ++ replicate 68 0))))) 1 ≡
+      (bytes_of_words (replicate 376 0 ++ (frame_of 42 2 0 0x08000FF2 ++ (replicate 52 0 ++ (frame_of 1 2 0x080020A1 0x08002096 ++ replicate 68 0))))) 1 ≡
       Resumes (record { current = 1; top = 0x20000700; mark = 1; saved = main_saved ∷ []; loans = loan ∷ [] }) 0x200006D0
-      (bytes_of (replicate 376 0 ++ (frame_of 42 2 0 0x08000FF2 ++ (replicate 52 0 ++ (frame_of 42 2 0x080020A1 0x08002096 ++ replicate 68 0)))))
+      (bytes_of_words (replicate 376 0 ++ (frame_of 42 2 0 0x08000FF2 ++ (replicate 52 0 ++ (frame_of 42 2 0x080020A1 0x08002096 ++ replicate 68 0)))))
   -- a loan of main's word; not at an odd address, not of the frame, not above TOP, not under a number that there is not
   pub lends : from_main 2 main_runs (lending 0x200007E8 0) ≡ Resumes (record main_runs { loans = loan ∷ [] }) 0x200007C0 (stack_with 1984 (lending 0x200007E8 0))
   pub odd : from_main 2 main_runs (lending 0x200007E9 0) ≡ Halts 6

@@ -5,12 +5,13 @@ use Rattle.monitor_model.specs.declared.tables.Tables.{Tables}
 use Rattle.monitor_model.specs.Block.{MonitorBlock}
 use Rattle.monitor_model.specs.Outcomes.{Outcome, Halts, Resumes}
 use Rattle.monitor_model.specs.FaultOutcome.{fault_outcome}
-use Rattle.example_monitor.specs.LentImage.{bytes_of, tables, image}
+use Rattle.monitor_program.specs.Page.{bytes_of_words}
+use Rattle.example_monitor.specs.LentImage.{tables, image}
 use Rattle.example_monitor.specs.Stack.{frame_of, two_calls}
 
 -- the stack with a frame at 0x200005C0 of an access by r0 at r1, and a word at 0x200007E8
 abbrev pub accessing : (r0 r1 return_address word : ℕ) → List ℕ
-accessing r0 r1 ret w = bytes_of (replicate 368 0 ++ (frame_of r0 r1 0 ret ++ (replicate 130 0 ++ w ∷ replicate 5 0)))
+accessing r0 r1 ret w = bytes_of_words (replicate 368 0 ++ (frame_of r0 r1 0 ret ++ (replicate 130 0 ++ w ∷ replicate 5 0)))
 
 -- compartment 2 stores to main's word: STR r0,[r1,#0] is 0x6008
 abbrev pub fault_by : Tables → MonitorBlock → (memory : List ℕ) → (cfsr half : ℕ) → Outcome

@@ -1,7 +1,7 @@
 -- Beyond the program's claim: only laws, proofs and functions inside the tool cite this file.
 -- How many bytes of code the monitor has, and how many steps at most, on boards with 8 and 16 regions. The tests of the
 -- number of an SVC count with all four lists, of which a run takes one.
-use Rattle.std.specs.Prelude.{◌≡◌, ℕ, ◌+◌, true, false}
+use Rattle.std.specs.Prelude.{◌≡◌, ℕ, ◌+◌}
 use Rattle.monitor_steps.specs.Steps.{PrivilegedSteps}
 use Rattle.monitor_steps.specs.Code.{code_length}
 use Rattle.monitor_steps.specs.Ticks.{most_ticks}
@@ -9,20 +9,8 @@ use Rattle.monitor_program.specs.Constants.{Constants}
 use Rattle.monitor_program.specs.Svc.{enter, leave, lend, unlend, svc}
 use Rattle.monitor_program.specs.MemFault.{memfault}
 use Rattle.monitor_program.specs.Reset.{reset}
-use Rattle.monitor_program.specs.Page.{constants, stub_offset, vectors_size}
-use Rattle.example_monitor.specs.Sample.{sample}
-
-abbrev pub four_open : Constants
-four_open = constants (sample 3 false)
-
-abbrev pub four_closed : Constants
-four_closed = constants (sample 3 true)
-
-abbrev pub twelve_open : Constants
-twelve_open = constants (sample 11 false)
-
-abbrev pub twelve_closed : Constants
-twelve_closed = constants (sample 11 true)
+use Rattle.monitor_program.specs.Page.{stub_offset, vectors_size}
+use Rattle.example_monitor.specs.Sample.{four_open, four_closed, twelve_open, twelve_closed}
 
 -- a list has so many bytes of code, and makes at most so many steps
 pub record Measures (s : PrivilegedSteps) (bytes steps : ℕ) : Type 0 where

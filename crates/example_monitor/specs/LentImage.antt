@@ -2,15 +2,11 @@
 -- The tables and the image of a firmware of three compartments: main lends a local word to the function that is called by the
 -- function that it calls. The words of the image are those that an independent model of the compiler made for a board of
 -- 262,144 bytes of flash and 65,536 of RAM, with a stack of 2,048 bytes; the monitor's code is left out.
-use Rattle.std.specs.Prelude.{ℕ, ◌/◌, ◌%◌, ◌^◌, List, [], ◌∷◌, ◌++◌, false, replicate}
+use Rattle.std.specs.Prelude.{ℕ, List, [], ◌∷◌, ◌++◌, false, replicate}
 use Rattle.machine_devices.specs.declared.image.Image.{Image}
 use Rattle.monitor_model.specs.declared.tables.Tables.{Tables}
 use Rattle.monitor_model.specs.MonitorCode.{MonitorCode}
-
--- the bytes of words, the lowest byte first
-abbrev pub bytes_of : List ℕ → List ℕ
-bytes_of [] = []
-bytes_of (w ∷ ws) = w % 256 ∷ w / 2 ^ 8 % 256 ∷ w / 2 ^ 16 % 256 ∷ w / 2 ^ 24 ∷ bytes_of ws
+use Rattle.monitor_program.specs.Page.{bytes_of_words}
 
 abbrev pub tables : Tables
 tables = record {
@@ -85,11 +81,11 @@ abbrev pub page_words : List ℕ
 page_words = replicate 16 0 ++ 0x0500F240 ∷ 0x0500F2C0 ∷ 0x0701F242 ∷ 0x0700F6C0 ∷ replicate 1004 0
 
 abbrev pub code : MonitorCode
-code = record { page = λ t. bytes_of page_words; stub = λ t. 0x08000FF0; main_entry_at = 72; main_compartment_at = 64 }
+code = record { page = λ t. bytes_of_words page_words; stub = λ t. 0x08000FF0; main_entry_at = 72; main_compartment_at = 64 }
 
 -- flash with these words behind the page
 abbrev pub flash_with : (area : List ℕ) → List ℕ
-flash_with area = bytes_of (page_words ++ (area ++ (replicate 969 0xFFFFFFFF ++ code_words)))
+flash_with area = bytes_of_words (page_words ++ (area ++ (replicate 969 0xFFFFFFFF ++ code_words)))
 
 abbrev pub image_with : (flash : List ℕ) → Image
 image_with flash = record {

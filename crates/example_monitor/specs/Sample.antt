@@ -1,9 +1,11 @@
 -- Beyond the program's claim: only laws, proofs and functions inside the tool cite this file.
 -- A small board: two compartments, a crossing site of the first that calls into the second, and one lendable local.
-use Rattle.std.specs.Prelude.{ℕ, zero, suc, ◌+◌, List, [], ◌∷◌, Bool}
+use Rattle.std.specs.Prelude.{ℕ, zero, suc, ◌+◌, List, [], ◌∷◌, Bool, true, false}
 use Rattle.machine_protection.specs.declared.region.Region.{Region}
 use Rattle.monitor_model.specs.declared.tables.CompRecord.{CompRecord}
 use Rattle.monitor_model.specs.declared.tables.Tables.{Tables}
+use Rattle.monitor_program.specs.Constants.{Constants}
+use Rattle.monitor_program.specs.Page.{constants}
 
 abbrev pub region : (rbar rasr : ℕ) → Region
 region rbar rasr = record { rbar = rbar; rasr = rasr }
@@ -36,3 +38,16 @@ sample more_slots closed = record {
   main_comp = 0;
   closed = closed;
 }
+
+-- what the monitor's code takes of it, on open and closed boards with 8 and 16 regions
+abbrev pub four_open : Constants
+four_open = constants (sample 3 false)
+
+abbrev pub four_closed : Constants
+four_closed = constants (sample 3 true)
+
+abbrev pub twelve_open : Constants
+twelve_open = constants (sample 11 false)
+
+abbrev pub twelve_closed : Constants
+twelve_closed = constants (sample 11 true)

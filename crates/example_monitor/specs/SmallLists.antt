@@ -11,10 +11,10 @@ use Rattle.monitor_steps.specs.declared.steps.PrivilegedOp.TheVariants.{Add, Sub
 use Rattle.monitor_steps.specs.declared.steps.PrivilegedCond.TheVariants.{Ult}
 use Rattle.monitor_steps.specs.Steps.{PrivilegedSteps, End, Const, Copy, Load, Store, Alu, ReadPsp, WritePsp, WriteControl, Test, Repeat, Halt, Return, Go, ◌▸◌}
 use Rattle.monitor_steps.specs.Core.{Core}
-use Rattle.monitor_steps.specs.Effect.{Outcome, Went, Halted, AtReturn, AtBranch, Stopped, Unclaimed, effect}
+use Rattle.monitor_steps.specs.Effect.{Went, Halted, AtReturn, AtBranch, Stopped, Unclaimed}
 use Rattle.monitor_steps.specs.Code.{code, code_length}
 use Rattle.monitor_steps.specs.Ticks.{ticks, most_ticks}
-use Rattle.example_monitor.specs.Board.{image}
+use Rattle.example_monitor.specs.Board.{image, does}
 
 -- a privileged thread on the main stack, with these numbers in r0 to r7 and sixteen bytes of RAM
 abbrev pub core : (low ram : List ℕ) → Core
@@ -36,9 +36,6 @@ begin = core (0 ∷ 1 ∷ 2 ∷ 3 ∷ 4 ∷ 5 ∷ 6 ∷ 7 ∷ []) zeros
 
 abbrev pub unprivileged : Core
 unprivileged = record begin { protection = record { handler = false; unprivileged = true; mpu = at_reset 8 } }
-
-abbrev pub does : PrivilegedSteps → Core → Outcome
-does s c = effect by_mpu image s c
 
 -- three times 7, by a loop of at most so many turns
 abbrev pub times_seven : (most : ℕ) → PrivilegedSteps

@@ -2,11 +2,11 @@
 -- A small stack for the handlers: the firmware's 2,048 bytes, as words. The frame of an exception lies at the stack pointer.
 use Rattle.std.specs.Prelude.{ℕ, ◌-◌, ◌/◌, List, [], ◌∷◌, ◌++◌, replicate}
 use Rattle.monitor_model.specs.Block.{Loan, Saved, MonitorBlock}
-use Rattle.example_monitor.specs.LentImage.{bytes_of}
+use Rattle.monitor_program.specs.Page.{bytes_of_words}
 
 -- eight words at an offset of the stack, and zeros elsewhere
 abbrev pub stack_with : (offset : ℕ) → (frame : List ℕ) → List ℕ
-stack_with o frame = bytes_of (replicate (o / 4) 0 ++ (frame ++ replicate (512 - 8 - o / 4) 0))
+stack_with o frame = bytes_of_words (replicate (o / 4) 0 ++ (frame ++ replicate (512 - 8 - o / 4) 0))
 
 -- r0 to r3, r12, lr, the return address and a thread's xPSR
 abbrev pub frame_of : (r0 r1 r12 return_address : ℕ) → List ℕ

@@ -3,9 +3,10 @@ use Rattle.std.proofs.Common.{◌≡◌, ℕ, ℤ, suc, ◌+◌, ◌/◌, ◌%�
 use Rattle.std.proofs.lemmas.List.Concat.{flat_map-append}
 use Rattle.machine_thumb.specs.declared.table.Instr.{Instr}
 use Rattle.machine_thumb.specs.declared.table.Instr.TheVariants.{BranchLink}
-use Rattle.machine_thumb.specs.Table.{IsOffset}
+use Rattle.machine_thumb.specs.Table.{IsOffset, svc}
 use Rattle.machine_thumb.specs.Bytes.{EachInTable}
 use Rattle.machine_thumb.proofs.Codes.{in_table-append}
+use Rattle.machine_thumb.proofs.Offsets.{two_offset}
 use Rattle.machine_thumb_asm.specs.declared.item.Item.{Item}
 use Rattle.machine_thumb_asm.specs.declared.item.Item.TheVariants.{Half}
 use Rattle.machine_thumb_asm.specs.Assembly.{total}
@@ -18,7 +19,7 @@ use Rattle.ir_laws.specs.Typed.{KeepsResult, CallTyped, InstTyped, EndTyped, Her
 use Rattle.code_model.specs.declared.places.Places.{Places}
 use Rattle.code_model.specs.FrameShape.{frame_shape, local_starts}
 use Rattle.code_model.specs.Places.{global_address, window_address, entry_address, site_in, crosses}
-use Rattle.code_model.specs.Words.{plain, save_code, word_into, supervisor_call}
+use Rattle.code_model.specs.Words.{plain, save_code, word_into}
 use Rattle.code_model.specs.Numbers.{const_code, move_code, bin_code}
 use Rattle.code_model.specs.Comparisons.{cmp_code}
 use Rattle.code_model.specs.Addresses.{named_into, addr_code, faddr_code, elem_code, field_code, load_code, store_code}
@@ -30,7 +31,7 @@ use Rattle.code_model.specs.FunctionCode.{lent, block_pieces, blocks_pieces, fun
 use Rattle.code_model.specs.Laws.{SizesHold}
 use Rattle.image_promises.proofs.Passing.{and_yes, le_yes, lt_yes}
 use Rattle.image_promises.proofs.Encodable.{Encodable, encodable-append, plain_encodable, offset_in}
-use Rattle.image_promises.proofs.TemplateCode.{LendsFit, load_in, store_in, address_in, supervisor_in, word_in, save_in, const_in, move_in, bin_in, cmp_in, two_offset, elem_in, field_in, loads_in, stores_to_in, args_in, callee_in, enter_in, leave_in}
+use Rattle.image_promises.proofs.TemplateCode.{LendsFit, load_in, store_in, address_in, supervisor_in, word_in, save_in, const_in, move_in, bin_in, cmp_in, elem_in, field_in, loads_in, stores_to_in, args_in, callee_in, enter_in, leave_in}
 use Rattle.machine_thumb_asm.proofs.Items.{total-append}
 use Rattle.code_model.proofs.Filling.{args_total}
 use Rattle.code_model.proofs.FunctionSizes.{block_total}
@@ -87,8 +88,8 @@ module _ (low high : ℕ) (near : high ≤ low + 2 ^ 21) (top : high < 2 ^ 31) (
       let y : nat_lt (entry_address q h) (from + 4 + 2 ^ 24) ≡ true = lt_yes (omega (arith, a, t, near)) in
       offset_in from (entry_address q h) (omega (arith, b, top)) (omega (arith, t, top)) (and_yes x y) (v ∙ sym e)
 
-  crossing : (code : List Instr) (s : ℕ) (to : Option ℕ) (r : PlainResult) → EachInTable code → s < 2 ^ 16 → KeepsResult g to r → Encodable (plain (code ++ supervisor_call 0 ∷ []) ++ Half s ∷ plain (save_code to))
-  crossing code s to r h l keeps = encodable-append (plain (code ++ supervisor_call 0 ∷ [])) _ (plain_encodable (code ++ supervisor_call 0 ∷ []) (in_table-append code _ h (supervisor_in 0 (omega arith), tt))) (l, saved to r keeps)
+  crossing : (code : List Instr) (s : ℕ) (to : Option ℕ) (r : PlainResult) → EachInTable code → s < 2 ^ 16 → KeepsResult g to r → Encodable (plain (code ++ svc 0 ∷ []) ++ Half s ∷ plain (save_code to))
+  crossing code s to r h l keeps = encodable-append (plain (code ++ svc 0 ∷ [])) _ (plain_encodable (code ++ svc 0 ∷ []) (in_table-append code _ h (supervisor_in 0 (omega arith), tt))) (l, saved to r keeps)
 
   call_in : (at h : ℕ) (s to : Option ℕ) (as_ : List ℕ) (a : PlainTypes) (r : PlainResult) → h < length p.funcs → CallTyped g to as_ a r → low ≤ at → at + total (call_items at (entry_address q h) s to as_) ≤ high → at % 2 ≡ 0 →
       ((n : ℕ) → s ≡ Some n → n < 2 ^ 16) → Encodable (call_items at (entry_address q h) s to as_)

@@ -1,10 +1,8 @@
 -- All of the monitor's code has an encoding, and each byte of its page is a byte.
-use Rattle.std.proofs.Common.{ℕ, pos, ◌+◌, ◌-◌, ◌^◌, ◌<◌, ◌≤◌, ◌++◌, length, replicate, refl, arith}
+use Rattle.std.proofs.Common.{ℕ, ◌+◌, ◌-◌, ◌^◌, ◌<◌, ◌≤◌, ◌++◌, length, replicate, arith}
 use Rattle.std.proofs.lemmas.Nat.{trailing_le}
-use Rattle.std.specs.Int.Signed.{le_z_yes, lt_z_yes}
 use Rattle.base_laws.specs.Lists.{EachBelow}
 use Rattle.base_words.specs.Bytes.{AreBytes}
-use Rattle.machine_thumb.specs.Table.{IsOffset}
 use Rattle.machine_thumb.specs.Bytes.{code_bytes, EachInTable}
 use Rattle.machine_thumb.specs.Laws.{ShowsItsLength}
 use Rattle.machine_thumb.proofs.Codes.{in_table-append}
@@ -16,22 +14,13 @@ use Rattle.monitor_program.specs.MemFault.{memfault}
 use Rattle.monitor_program.specs.Page.{vectors, bytes_of_words, used_bytes, leave_stub, monitor_code, stub_offset, stub_address, constants, page}
 use Rattle.monitor_handlers.proofs.Encodable.{Words, words_fit, times_words, regions_words}
 use Rattle.monitor_program.specs.Opening.{bits_of, tables_of}
-use Rattle.monitor_model.specs.Records.{eighth as eighth_of}
 use Rattle.monitor_program.specs.Reset.{init_turn, thread_ready, to_main, reset}
 use Rattle.monitor_program.specs.Svc.{svc}
+use Rattle.monitor_program.proofs.Fields.{few_slots, eighth_word, stub_in}
 use Rattle.monitor_laws.proofs.Encoded.{tables_fields, in_table}
 use Rattle.monitor_handlers.proofs.SvcEncoded.{svc_in_table}
 use Rattle.monitor_handlers.proofs.Encodings.{memfault_in_table}
 use Rattle.image_promises.proofs.ByteLists.{below-append, below_at, ones_below, words_below, code_below}
-
-no_offset : IsOffset 2048 (pos 0)
-no_offset = record { from = le_z_yes tt; below = lt_z_yes tt; even = refl }
-
-stub_in : EachInTable leave_stub
-stub_in = ((omega arith, omega arith, no_offset, λ e. refl, λ e. absurd (omega (arith, e))), tt)
-
-few_slots : (stub : ℕ) (t : Tables) → (constants_with stub t).slots ≤ 12
-few_slots stub t = omega arith
 
 reset_short : (c : Constants) → stub_offset c + 2 ≤ 4096 → code_length (reset c) < 2 ^ 16
 reset_short c h = omega (arith, h)
@@ -48,14 +37,11 @@ module _ (stub : ℕ) (t : Tables) where
   abbrev s : Constants
   s = constants_with stub t
 
-  eighth : s.eighth < 2 ^ 32
-  eighth = let e = trailing_le 32 (eighth_of t) in omega (arith, e)
-
   go_words : Words (thread_ready s to_main)
   go_words = (omega arith, (omega arith, (omega arith, (omega arith, (omega arith, (omega arith, tt))))))
 
   tables_words : Words (tables_of s (thread_ready s to_main))
-  tables_words = (omega arith, times_words (bits_of 4 (s.slots + 2)) _ (omega arith, (omega arith, (omega arith, (omega arith, (eighth, (omega arith, (omega arith, (omega arith, (omega arith, (omega arith, regions_words s.slots 2 (thread_ready s to_main) go_words)))))))))))
+  tables_words = (omega arith, times_words (bits_of 4 (s.slots + 2)) _ (omega arith, (omega arith, (omega arith, (omega arith, (eighth_word stub t, (omega arith, (omega arith, (omega arith, (omega arith, (omega arith, regions_words s.slots 2 (thread_ready s to_main) go_words)))))))))))
 
   turn_words : Words (init_turn s)
   turn_words = (omega arith, ((omega arith, tt), (omega arith, tt)))

@@ -1,18 +1,18 @@
 -- The instructions of each template stand in the instruction table, where registers, words of the frame and numbers are small enough.
 use Rattle.std.proofs.Common.{◌≡◌, ℕ, zero, suc, pos, ◌+◌, ◌-◌, ◌^◌, ◌<◌, ◌≤◌, Bool, true, false, List, [], ◌∷◌, length, get_or, nat_le, Option, Some, None, refl, arith}
 use Rattle.std.proofs.lemmas.Bool.Decides.{nat_tests}
-use Rattle.std.specs.Int.Signed.{le_z_yes, lt_z_yes}
 use Rattle.machine_thumb.specs.declared.table.Instr.TheVariants.{CallBranch}
-use Rattle.machine_thumb.specs.Table.{InTable, IsGeneral, IsOffset}
+use Rattle.machine_thumb.specs.Table.{InTable, IsGeneral, svc}
 use Rattle.machine_thumb.specs.Bytes.{EachInTable}
 use Rattle.machine_thumb.proofs.Codes.{in_table-append}
+use Rattle.machine_thumb.proofs.Offsets.{no_offset, two_offset}
 use Rattle.ir_model.specs.Types.{PlainType, U8, U16, U32, Pointer, Array, Named, Callee}
 use Rattle.ir_model.specs.declared.firmware.BinOp.{BinOp}
 use Rattle.ir_model.specs.declared.firmware.BinOp.TheVariants as bin
 use Rattle.ir_model.specs.declared.firmware.CmpOp.{CmpOp}
 use Rattle.ir_model.specs.declared.firmware.CmpOp.TheVariants as cmp
 use Rattle.code_model.specs.Places.{Lend}
-use Rattle.code_model.specs.Words.{load_home, store_home, save_code, home_address, byte_into, word_into, supervisor_call}
+use Rattle.code_model.specs.Words.{load_home, store_home, save_code, home_address, byte_into, word_into}
 use Rattle.code_model.specs.Numbers.{const_code, move_code, operation, bin_code}
 use Rattle.code_model.specs.Comparisons.{condition, cmp_code}
 use Rattle.code_model.specs.Addresses.{scale_of, elem_code, field_code, load_at, store_at, load_code, store_code}
@@ -34,8 +34,8 @@ address_in d k a b = (omega arith, omega arith, a, b, λ e. absurd (omega (arith
 pub byte_in : (d n : ℕ) → d < 8 → n < 256 → InTable (byte_into d n)
 byte_in d n a b = (omega arith, a, b)
 
-pub supervisor_in : (n : ℕ) → n < 256 → InTable (supervisor_call n)
-supervisor_in n l = (omega arith, l, record { from = le_z_yes tt; below = lt_z_yes tt; even = refl }, λ e. refl, λ e. absurd (omega (arith, e)))
+pub supervisor_in : (n : ℕ) → n < 256 → InTable (svc n)
+supervisor_in n l = (omega arith, l, no_offset, λ e. refl, λ e. absurd (omega (arith, e)))
 
 general : (d : ℕ) → d < 13 → IsGeneral d
 general d l = (omega (arith, l), λ e. absurd (omega (arith, l, e)))
@@ -82,11 +82,8 @@ condition_small cmp.Ule = omega arith
 condition_small cmp.Slt = omega arith
 condition_small cmp.Sle = omega arith
 
-pub two_offset : IsOffset 256 (pos 2)
-two_offset = record { from = le_z_yes tt; below = lt_z_yes tt; even = refl }
-
 short_in : InTable (CallBranch 1 0 (pos 0))
-short_in = (omega arith, omega arith, record { from = le_z_yes tt; below = lt_z_yes tt; even = refl }, λ e. refl, λ e. refl)
+short_in = (omega arith, omega arith, no_offset, λ e. refl, λ e. refl)
 
 pub cmp_in : (op : CmpOp) (to a b : ℕ) → to < 256 → a < 256 → b < 256 → EachInTable (cmp_code op to a b)
 cmp_in op to a b x y z = (

@@ -10,13 +10,13 @@ use Rattle.monitor_program.specs.CodeSize.{PagesAreFull}
 use Rattle.monitor_model.specs.FromFlash.{tables_of}
 use Rattle.monitor_model.specs.Sound.{Sound}
 use Rattle.monitor_model.specs.Promises.{OfSoundImages}
+use Rattle.monitor_model.proofs.ReadFrom.{read_from}
 use Rattle.monitor_laws.proofs.Checked.{NoneFails, none_fails, header_is, head_is}
 use Rattle.image_runs.specs.OtherCode.{with_flash, KeepsTables, WithOtherCode}
 use Rattle.image_runs.specs.Laws.{HasPages, RulesStay, SoundnessStays, SoundImagesStaySound}
 use Rattle.image_runs.proofs.Alike.{Alike}
 use Rattle.image_runs.proofs.ReadAlike.{area_behind, tables_alike, area_is}
 use Rattle.image_runs.proofs.ChecksAlike.{failures_same}
-use Rattle.monitor_laws.proofs.ReadTables.{read_from}
 use Rattle.monitor_laws.proofs.SoundImages.{read_tables}
 
 -- ---- the rules

@@ -1,4 +1,4 @@
-mod Offsets
+pub mod Offsets
 mod Sound
 mod Round
 pub mod Relation

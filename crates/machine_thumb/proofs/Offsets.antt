@@ -3,6 +3,7 @@ use Rattle.std.proofs.Common.{◌≡◌, ℕ, suc, ◌+◌, ◌-◌, ◌*◌, �
 use Rattle.std.proofs.lemmas.Bool.Decides.{leb_tells}
 use Rattle.std.proofs.lemmas.Int.{to_z-of_z, to_z_pos, ints}
 use Rattle.std.specs.Int.{cast_unsigned}
+use Rattle.std.specs.Int.Signed.{le_z_yes, lt_z_yes}
 use Rattle.std.proofs.lemmas.Bool.{lt-ltb, le-ltb}
 use Rattle.machine_thumb.specs.Table.{IsOffset, halfwords_of}
 use Rattle.machine_thumb.specs.Decoded.{extended}
@@ -101,3 +102,13 @@ halfwords_of-extended-11 bits below =
 pub halfwords_of-extended-24 : (bits : ℕ) → bits < 2 ^ 24 → halfwords_of (extended (2 ^ 23) bits) % 2 ^ 24 ≡ bits
 halfwords_of-extended-24 bits below =
     elim (Extends-extended (2 ^ 23) bits (omega arith) below).word [ inl w ↦ omega arith | inr w ↦ omega arith ]
+
+-- ---- distances of short branches
+
+-- of SVC, and of a branch past one halfword
+pub no_offset : IsOffset 2048 (pos 0)
+no_offset = record { from = le_z_yes tt; below = lt_z_yes tt; even = refl }
+
+-- to behind the wide branch that follows
+pub two_offset : IsOffset 256 (pos 2)
+two_offset = record { from = le_z_yes tt; below = lt_z_yes tt; even = refl }

@@ -124,3 +124,7 @@ width_of (Pair h k) = 4
 -- take the second
 abbrev pub read_code : ℕ → ℕ → Code
 read_code h1 h2 = if nat_lt h1 0xE800 then Half h1 else Pair h1 h2
+
+-- SVC #n
+abbrev pub svc : ℕ → Instr
+svc n = CallBranch 0 n (pos 0)

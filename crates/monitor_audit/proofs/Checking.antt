@@ -11,7 +11,8 @@ use Rattle.monitor_model.specs.Records.{words_in}
 use Rattle.monitor_model.specs.Layout.{page_size, greatest_code, compartment_size, area_end, tables_size, initial_word_count}
 use Rattle.monitor_model.specs.Checks.{must, and_then, tables_fail}
 use Rattle.monitor_model.specs.MonitorCode.{MonitorCode}
-use Rattle.monitor_model.specs.FromFlash.{word_at, comp_record_at, site_record_at, target_record_at, init_record_at, comp_count, site_count, target_count, lend_count, init_count, sites_offset, targets_offset, lends_offset, inits_offset, inits_read, tables_behind, tables_of}
+use Rattle.monitor_model.specs.FromFlash.{word_at, comp_record_at, site_record_at, target_record_at, init_record_at, comp_count, site_count, target_count, lend_count, init_count, sites_offset, targets_offset, lends_offset, inits_offset, inits_read}
+use Rattle.monitor_model.proofs.ReadFrom.{read_from}
 use Rattle.monitor_laws.proofs.ReadTables.{length-records, slot_count}
 use Rattle.monitor_audit.specs.declared.head.Head.{Head}
 use Rattle.monitor_audit.specs.Heads.{IsHead, KeepsLimits, head_fails, words_offset}
@@ -65,13 +66,6 @@ has_some i h e =
     leb-true 1 h.comps n.0
 
 -- ---- of the tables that are read
-
-abbrev pub read_from : MonitorCode → Image → Tables
-read_from code i = tables_behind code i (drop page_size i.flash)
-
-pub tables_are : (code : MonitorCode) (i : Image) → tables_of code i ≡ read_from code i
-unfolding tables_of
-tables_are code i = refl
 
 -- the last test: the tables' block lies in flash, and what stands in it ends there
 abbrev pub block_lies : Image → Tables → Bool

@@ -9,9 +9,10 @@ use Rattle.monitor_model.specs.Layout.{page_size, greatest_code, area_end, table
 use Rattle.monitor_model.specs.Checks.{tables_fail}
 use Rattle.monitor_model.specs.MonitorCode.{MonitorCode}
 use Rattle.monitor_model.specs.FromFlash.{inits_read, tables_of}
+use Rattle.monitor_model.proofs.ReadFrom.{read_from, tables_are}
 use Rattle.monitor_audit.specs.declared.head.Head.{Head}
 use Rattle.monitor_audit.specs.Heads.{IsHead, head_fails, words_offset}
-use Rattle.monitor_audit.proofs.Checking.{read_from, tables_are, block_lies, head_first, block_refused, block_passes, area_is, lies_means, lies_where, size_is, size_holds}
+use Rattle.monitor_audit.proofs.Checking.{block_lies, head_first, block_refused, block_passes, area_is, lies_means, lies_where, size_is, size_holds}
 
 -- how many words start-up copies
 abbrev pub copied : Image → ℕ

@@ -1,5 +1,5 @@
 -- A thread's accesses are of the kinds that confinement allows, and its step keeps the invariant or comes to a handler.
-use Rattle.std.proofs.Common.{◌≡◌, ◌≢◌, ℕ, ◌+◌, ◌-◌, ◌*◌, ◌^◌, ◌<◌, ◌≤◌, ◌⊎◌, inl, inr, ⊎_elim, Bool, true, not, ◌&&◌, List, [], ◌∷◌, length, Some, None, bit_or, refl, sym, ap, ap₂, ◌∙◌, subst, arith}
+use Rattle.std.proofs.Common.{◌≡◌, ◌≢◌, ℕ, ◌+◌, ◌-◌, ◌*◌, ◌^◌, ◌<◌, ◌≤◌, ◌⊎◌, inl, inr, ⊎_elim, Bool, true, List, [], ◌∷◌, length, Some, None, bit_or, refl, sym, ap, ◌∙◌, subst, arith}
 use Rattle.std.proofs.lemmas.Bool.{cases_lt}
 use Rattle.base_words.specs.Bytes.{read}
 use Rattle.base_words.proofs.Bytes.{read_alike}
@@ -16,7 +16,7 @@ use Rattle.machine_bus.specs.Bus.{fetch_at}
 use Rattle.machine_bus.proofs.Placed.{place_further}
 use Rattle.machine_bus.proofs.Offsets.{in_flash, ram_at, flash_alone}
 use Rattle.machine_model.specs.declared.state.FaultStatus.{FaultStatus}
-use Rattle.machine_model.specs.State.{State, Touched, Turn, by_mpu, is_unprivileged}
+use Rattle.machine_model.specs.State.{State, Touched, Turn, by_mpu}
 use Rattle.machine_model.specs.Exceptions.{vector_offset, mem_manage, supervisor_call}
 use Rattle.machine_model.specs.Step.{turn}
 use Rattle.machine_model.specs.Code.{HoldsHalf}
@@ -34,6 +34,7 @@ use Rattle.monitor_model.specs.Invariant.{InvariantHolds}
 use Rattle.monitor_model.specs.Reach.{AllBytes, running, StoreKind, BySlot, ByStack, LoadKind, OfFlash, OfSlot, OfStack}
 use Rattle.monitor_model.specs.Confined.{IsProtected}
 use Rattle.monitor_model.specs.Handlers.{IsFault}
+use Rattle.monitor_model.proofs.Invariants.{runs_unprivileged, few_callers}
 use Rattle.monitor_confined.specs.Reaches.{ThreadsReach, Reaches}
 use Rattle.monitor_confined.specs.ThreadSteps.{ThreadStepsAreConfined, ThreadStepsLead, LeadsOn, Ends as LeadsToEnd, Goes as LeadsToThread, Calls as LeadsToSvc, Faults as LeadsToFault}
 use Rattle.monitor_confined.proofs.Reaches.{current_word, regions_word, open_inside}
@@ -96,9 +97,6 @@ module _ (i : Image) (t : Tables) (m : MonitorBlock) (s : State) (p : Placed i t
   protected : IsProtected i t s
   protected = record { thread = h.inv.thread; unprivileged = h.inv.unprivileged; on_psp = h.inv.on_psp; control = h.inv.control; regions = regions_word i t m s h }
 
-  user : is_unprivileged s.protection ≡ true
-  user = ap₂ (λ (a b : Bool). not a && b) h.inv.thread h.inv.unprivileged
-
   -- ---- kinds of addresses
 
   store_kind : (a : ℕ) → permits s.protection.mpu true Write a ≡ true → StoreKind i t s a
@@ -128,9 +126,6 @@ module _ (i : Image) (t : Tables) (m : MonitorBlock) (s : State) (p : Placed i t
   loads_kind closed x (inr (inr e)) k lt = vector_kind supervisor_call (omega arith) x e k lt
 
   -- ---- the block
-
-  shallow : length m.saved ≤ 8
-  shallow = let x = h.inv.orderly.is_top.3 in omega (arith, x)
 
   store_off : (a : ℕ) → permits s.protection.mpu true Write a ≡ true → AreApart a 1 t.monitor block_size
   store_off a e = ⊎_elim
@@ -163,7 +158,7 @@ module _ (i : Image) (t : Tables) (m : MonitorBlock) (s : State) (p : Placed i t
   goes_holds : (tn : Turn) → Plain i s tn → StateFits i tn.to → InvariantHolds i t m tn.to
   goes_holds tn plain fits = record {
     inv = record {
-      is_block = block_stays i t s.ram tn.to.ram (λ o le. word_stays tn plain o (omega (arith, le))) m shallow h.inv.orderly.few h.inv.is_block;
+      is_block = block_stays i t s.ram tn.to.ram (λ o le. word_stays tn plain o (omega (arith, le))) m (few_callers h.inv.orderly) h.inv.orderly.few h.inv.is_block;
       orderly = h.inv.orderly;
       thread = ap (λ q. q.handler) plain.protection ∙ h.inv.thread;
       unprivileged = ap (λ q. q.unprivileged) plain.protection ∙ h.inv.unprivileged;
@@ -181,7 +176,7 @@ module _ (i : Image) (t : Tables) (m : MonitorBlock) (s : State) (p : Placed i t
 
   may_fetch : (a : ℕ) → by_mpu s.protection Fetch a ≡ true → permits s.protection.mpu true Fetch a ≡ true
   unfolding by_mpu
-  may_fetch a e = subst (λ (u : Bool). permits s.protection.mpu u Fetch a ≡ true) user e
+  may_fetch a e = subst (λ (u : Bool). permits s.protection.mpu u Fetch a ≡ true) (runs_unprivileged h.inv) e
 
   -- what a thread fetched stands in flash
   fetched_flash : (half : ℕ) → IsFetched by_mpu i s half → HoldsHalf i s.core.pc half
@@ -209,7 +204,7 @@ module _ (i : Image) (t : Tables) (m : MonitorBlock) (s : State) (p : Placed i t
 pub steps_are_confined : UnprivilegedAccessesAreReached → ThreadsReach → ThreadStepsAreConfined
 steps_are_confined accesses reach i t m s p h =
     let r = reach i t m s p h in
-    let a = accesses i s (user i t m s p h r) h.fits.core.sp_aligned in
+    let a = accesses i s (runs_unprivileged h.inv) h.fits.core.sp_aligned in
     record {
       protection = protected i t m s p h r;
       stores = each_to (IsReached i s.protection.mpu Write) (AllBytes (StoreKind i t s)) (turn by_mpu i s).stores (stores_kind i t m s p h r) a.stores;
@@ -219,4 +214,4 @@ steps_are_confined accesses reach i t m s p h =
 pub steps_lead : UnprivilegedStepsAreThreadSteps → StepsKeepShape → ThreadsReach → ThreadStepsLead
 steps_lead steps shape reach i t m s p h live =
     let r = reach i t m s p h in
-    leads i t m s p h r (shape by_mpu i s p.rules h.fits) live (steps i s (user i t m s p h r) live)
+    leads i t m s p h r (shape by_mpu i s p.rules h.fits) live (steps i s (runs_unprivileged h.inv) live)

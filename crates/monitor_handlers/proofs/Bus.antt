@@ -50,7 +50,7 @@ use Rattle.monitor_laws.proofs.Off.{core, IsOff, open_while_off}
 use Rattle.monitor_laws.proofs.Appended.{followed_by, code_followed}
 use Rattle.monitor_laws.proofs.Opened.{FrameIsOpen}
 use Rattle.monitor_laws.proofs.SvcNumber.{Called, numbered as up_to_number, numbered_within}
-use Rattle.monitor_handlers.proofs.Calling.{Calling, off, is_off, halted, same, top_word, top_word_below, word_before}
+use Rattle.monitor_handlers.proofs.Calling.{Calling, off, is_off, halted, same, top_word, top_word_below, word_before, offset_low}
 use Rattle.monitor_handlers.proofs.Numbers.{W, Q, at_first, premises}
 use Rattle.monitor_handlers.proofs.Mode.{good_while_off}
 use Rattle.monitor_handlers.proofs.Returned.{is_before, left_of}
@@ -122,12 +122,9 @@ module _ (nothing : NothingStops) (equal : holds 0 (compare_flags 0 0) ≡ true)
   abbrev pub Ends : PrivilegedOutcome → Type 0
   Ends z = ((Q i t stub s m psp o memory c (Halts 4) z) × (FrameIsOpen i t o memory → ⊥)) ⊎ ((z ≡ Went at_test) × FrameIsOpen i t o memory)
 
-  small : o < 2 ^ 31
-  small = let x = c.fits in let y = c.placed.rules.ram_most in omega (arith, x, y)
-
   pub before_within : (a0 a1 a2 a3 a4 a5 a6 a7 : ℕ) → W i t stub s m psp o memory c 68 before [] (at_first i t stub s m psp o memory c a0 a1 a2 a3 a4 a5 a6 a7) Ends
   before_within a0 a1 a2 a3 a4 a5 a6 a7 =
-      numbered_within (premises i t stub s m psp o memory c) o 0 refl refl c.at c.aligned small (top_word_below i t stub s m psp o memory c) (word_before i t stub s m psp o memory c) (subst (λ r. Called i r 0) (sym return_is) called)
+      numbered_within (premises i t stub s m psp o memory c) o 0 refl refl c.at c.aligned (offset_low i t stub s m psp o memory c) (top_word_below i t stub s m psp o memory c) (word_before i t stub s m psp o memory c) (subst (λ r. Called i r 0) (sym return_is) called)
       (λ d r shut. inl (halted i t stub s m psp o memory c 4 d r, shut))
       (λ q1 eq off1 f.
       at_within (ap (λ q. core msp psp q s.status memory psp k.block k.stack (read 4 (t.monitor - i.ram_base + 4) memory) (read 4 (o + 24) memory) 0 MPU_CTRL 0) eq ∙ ap₂ (λ x y. core msp psp here s.status memory psp k.block k.stack x y 0 MPU_CTRL 0) (top_word i t stub s m psp o memory c) return_is)

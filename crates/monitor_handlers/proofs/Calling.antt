@@ -24,6 +24,7 @@ use Rattle.monitor_model.specs.Invariant.{IsTop, InvariantHolds}
 use Rattle.monitor_model.specs.Handlers.{LoadFor, ForStack}
 use Rattle.monitor_model.specs.Outcomes.{Outcome, Halts, Resumes, stacked, is_open, status_place}
 use Rattle.monitor_model.specs.SvcOutcome.{word, new_loan, may_lend, lend, unlend_to, by_number, svc_outcome}
+use Rattle.monitor_model.proofs.Invariants.{few_callers}
 use Rattle.monitor_laws.proofs.Off.{core, with_unit, IsOff}
 use Rattle.monitor_laws.proofs.Fetched.{UnitLaws, page_is_fetched}
 use Rattle.monitor_laws.proofs.Opened.{FrameIsOpen}
@@ -186,11 +187,12 @@ module _ (i : Image) (t : Tables) (stub : ℕ) (s : State) (m : MonitorBlock) (p
       may_load : (a : ℕ) → psp ≤ a → a < psp + 32 → LoadFor i t s a
       may_load a lo hi = let e = c.at in let l = f.low in let h = frame_before f in ForStack (omega (arith, lo, e, l), omega (arith, hi, e, h))
 
+  -- the frame lies in RAM
+  pub offset_low : o < 2 ^ 31
+  offset_low = let x = c.fits in let y = c.placed.rules.ram_most in omega (arith, x, y)
+
   block_room : b + 1024 ≤ length memory
   block_room = let a = c.placed.block_inside.0 in let z = c.placed.block_inside.1 in let l = c.as_long in omega (arith, a, z, l)
-
-  shallow : length m.saved ≤ 8
-  shallow = let x = c.invariant.inv.orderly.is_top.3 in omega (arith, x)
 
   -- ---- unlend
 
@@ -288,7 +290,7 @@ module _ (i : Image) (t : Tables) (stub : ℕ) (s : State) (m : MonitorBlock) (p
       depth_is = at 8 (inl (omega arith)) ∙ c.is_block.depth_is;
       loan_count_is = stored (b + 12) (live + 1) m3 new g4 (let r = block_room in let l = long3 in omega (arith, r, l)) (omega (arith, few)) ∙ (let y : live + 1 ≡ suc live = omega arith in y);
       mark_is = at 16 (inr (inl (omega arith, omega arith))) ∙ c.is_block.mark_is;
-      has_saved = saved_stay i t memory new m.saved (λ y lo hi. at y (inr (inl (let h = shallow in (omega (arith, lo), omega (arith, hi, h)))))) c.is_block.has_saved;
+      has_saved = saved_stay i t memory new m.saved (λ y lo hi. at y (inr (inl (let h = few_callers c.invariant.inv.orderly in (omega (arith, lo), omega (arith, hi, h)))))) c.is_block.has_saved;
       has_loans = (
         record {
           address = beside (b + (160 + 12 * live)) (b + 12) (live + 1) m3 new g4 (inr (omega arith)) ∙ beside (b + (160 + 12 * live)) (b + (160 + 12 * live + 8)) x m2 m3 g3 (inl (omega arith)) ∙ beside (b + (160 + 12 * live)) (b + (160 + 12 * live + 4)) z m1 m2 g2 (inl (omega arith)) ∙ stored (b + (160 + 12 * live)) a memory m1 g1 (let r = block_room in omega (arith, r, few)) la;

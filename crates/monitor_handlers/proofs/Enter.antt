@@ -1,5 +1,5 @@
 -- All of enter: the site, the target, the new TOP, the caller's words, the callee's frame, and the regions of its compartment.
-use Rattle.std.proofs.Common.{◌≡◌, ◌≢◌, ℕ, ◌+◌, ◌-◌, ◌*◌, ◌/◌, ◌%◌, ◌^◌, ◌<◌, ◌≤◌, ◌⊎◌, inl, inr, ⊎_elim, true, List, ◌∷◌, length, Option, Some, None, refl, sym, ap, ◌∙◌, subst, arith}
+use Rattle.std.proofs.Common.{◌≡◌, ◌≢◌, ℕ, ◌+◌, ◌-◌, ◌*◌, ◌/◌, ◌%◌, ◌^◌, ◌<◌, ◌≤◌, ◌⊎◌, inl, inr, ⊎_elim, true, List, ◌∷◌, length, Option, Some, None, refl, sym, ap, ◌∙◌, arith}
 use Rattle.std.proofs.lemmas.Bool.{cases_lt}
 use Rattle.std.proofs.Math.Nat.{div-mul-le_self, mod_self}
 use Rattle.base_words.specs.Bytes.{read, write}
@@ -22,7 +22,7 @@ use Rattle.monitor_program.specs.Svc.{enter, raise, save, frame as frame_steps, 
 use Rattle.monitor_program.specs.Opening.{tables_of, closed_up}
 use Rattle.monitor_laws.proofs.Off.{core, with_unit, IsOff}
 use Rattle.monitor_laws.proofs.Written.{tables_within, open_stack}
-use Rattle.monitor_laws.proofs.Tables.{StackSize, stack_size, shaped, has_compartment, record_at, top_is, unit_is}
+use Rattle.monitor_laws.proofs.Tables.{shaped, has_compartment, record_at, top_is, unit_is, size_of_stack}
 use Rattle.monitor_laws.proofs.Placement.{writable}
 use Rattle.monitor_laws.proofs.Unlend.{closed_within}
 use Rattle.monitor_laws.proofs.HandlerWords.{changed_write, InStack, apart_from_block}
@@ -35,7 +35,6 @@ use Rattle.monitor_laws.proofs.EnterFrame.{Framed, frame_within}
 use Rattle.monitor_handlers.proofs.Targets.{SiteFits, compartment_of, target_is, to, site_targets, site_chosen}
 use Rattle.monitor_laws.proofs.Opened.{HandlerPremises}
 use Rattle.monitor_laws.specs.RegionsWritten.{Writable}
-use Rattle.base_ranges.specs.Ranges.{IsPowerBetween}
 
 -- what enter leaves of RAM in which the return address has been raised
 pub record HasEntered (i : Image) (t : Tables) (link psp o fo d current new_top entry : ℕ) (old new : List ℕ) : Type 0 where
@@ -104,9 +103,6 @@ module _ (i : Image) (t : Tables) (p : Placed i t) where
 
   -- ---- the new TOP
 
-  size_is : StackSize t.stack.size
-  size_is = stack_size t.stack.size (subst (λ z. IsPowerBetween 9 16 z) (sym p.stack_size) p.stack.size)
-
   four_times : (n e : ℕ) → e % 4 ≡ 0 → (n * e) % 4 ≡ 0
   four_times n e h =
       let q : ℕ = e / 4 in
@@ -116,8 +112,8 @@ module _ (i : Image) (t : Tables) (p : Placed i t) where
 
   eighth_four : eighth t % 4 ≡ 0
   eighth_four =
-      let z = size_is.eighths in
-      let a = size_is.aligned t.stack.size (mod_self t.stack.size) in
+      let z = (size_of_stack p).eighths in
+      let a = (size_of_stack p).aligned t.stack.size (mod_self t.stack.size) in
       omega (arith, z, a)
 
   -- of a frame in the stack with some eighth below it: where the new TOP lies
@@ -136,9 +132,9 @@ module _ (i : Image) (t : Tables) (p : Placed i t) where
     at = refl;
     some = pos;
     few = fewer ((psp - t.stack.base) / eighth t) at_most;
-    above = let a = once ((psp - t.stack.base) / eighth t) pos in let l = size_is.least in omega (arith, a, l);
+    above = let a = once ((psp - t.stack.base) / eighth t) pos in let l = (size_of_stack p).least in omega (arith, a, l);
     below = let a = at_most in omega (arith, a, lo);
-    aligned = let a = four_times ((psp - t.stack.base) / eighth t) (eighth t) eighth_four in let c = size_is.aligned t.stack.base (ap (λ z. t.stack.base % z) p.stack_size ∙ ap (λ b. b % i.stack_size) p.stack_base ∙ p.stack.aligned) in omega (arith, a, c);
+    aligned = let a = four_times ((psp - t.stack.base) / eighth t) (eighth t) eighth_four in let c = (size_of_stack p).aligned t.stack.base (ap (λ z. t.stack.base % z) p.stack_size ∙ ap (λ b. b % i.stack_size) p.stack_base ∙ p.stack.aligned) in omega (arith, a, c);
   }
     where
       at_most : (psp - t.stack.base) / eighth t * eighth t ≤ psp - t.stack.base
@@ -151,7 +147,7 @@ module _ (i : Image) (t : Tables) (p : Placed i t) where
       eight_times n h = grind (arith, h)
 
       fewer : (n : ℕ) → n * eighth t ≤ psp - t.stack.base → n ≤ 7
-      fewer n h = ⊎_elim (λ x. omega (arith, x)) (λ x. absurd (let y = eight_times n x in let z = size_is.eighths in omega (arith, y, z, h, hi, lo))) (cases_lt n 8)
+      fewer n h = ⊎_elim (λ x. omega (arith, x)) (λ x. absurd (let y = eight_times n x in let z = (size_of_stack p).eighths in omega (arith, y, z, h, hi, lo))) (cases_lt n 8)
 
 module _ (premises : HandlerPremises)
     (on : (q : ProtectionState) (cur top : ℕ) → cur < length premises.installed.tables.comps → q.handler ≡ true → q.mpu.regions ≡ regions_for premises.installed.image premises.installed.tables cur top → premises.Good (with_unit q (record q.mpu { control = 5 }))) where

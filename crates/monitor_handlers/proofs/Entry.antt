@@ -1,5 +1,5 @@
 -- The state at the handler's first instruction: the frame is pushed, and the monitor's block is as before.
-use Rattle.std.proofs.Common.{◌≡◌, ℕ, ◌+◌, ◌-◌, ◌*◌, ◌/◌, ◌%◌, ◌^◌, ◌<◌, ◌≤◌, inl, inr, ⊎_elim, Bool, true, false, not, ◌&&◌, List, [], ◌∷◌, length, get_or, None, refl, sym, ap, ap₂, ◌∙◌, subst, arith}
+use Rattle.std.proofs.Common.{◌≡◌, ℕ, ◌+◌, ◌-◌, ◌*◌, ◌/◌, ◌%◌, ◌^◌, ◌<◌, ◌≤◌, inl, inr, ⊎_elim, Bool, true, false, List, [], ◌∷◌, length, get_or, None, refl, sym, ap, ◌∙◌, subst, arith}
 use Rattle.base_words.specs.Bytes.{read, write_all}
 use Rattle.base_words.proofs.Bytes.{length-write_all, read_apart_all, read_all, cut_small}
 use Rattle.machine_protection.specs.declared.region.Access.TheVariants.{Write}
@@ -10,7 +10,7 @@ use Rattle.machine_devices.specs.Rules.{block_size}
 use Rattle.machine_bus.specs.Locations.{choose}
 use Rattle.machine_model.specs.declared.state.ProtectionState.{ProtectionState}
 use Rattle.machine_model.specs.declared.state.FaultStatus.{FaultStatus}
-use Rattle.machine_model.specs.State.{State, by_mpu, is_unprivileged}
+use Rattle.machine_model.specs.State.{State, by_mpu}
 use Rattle.machine_model.specs.Exceptions.{entered as entry, frame_at, frame_of, vector, return_on_psp, return_on_msp, is_frame_open}
 use Rattle.machine_model.specs.EntryFrame.{OpenFrame, OpenFramesAreWords}
 use Rattle.machine_model.specs.Shape.{StateFits, StatusFits, EachWord}
@@ -23,13 +23,14 @@ use Rattle.monitor_model.specs.Block.{MonitorBlock}
 use Rattle.monitor_model.specs.BlockWords.{block_word, IsBlock, current}
 use Rattle.monitor_model.specs.Invariant.{InvariantHolds}
 use Rattle.monitor_model.specs.Reach.{running}
+use Rattle.monitor_model.proofs.Invariants.{runs_unprivileged, few_callers}
 use Rattle.monitor_confined.specs.Reaches.{ThreadsReach}
 use Rattle.monitor_laws.proofs.Effects.{eight}
 use Rattle.monitor_laws.proofs.Off.{core}
 use Rattle.monitor_handlers.proofs.Blocks.{block_stays}
 use Rattle.base_laws.proofs.Lists.{each_at}
 use Rattle.monitor_confined.proofs.ThreadSteps.{slot_off}
-use Rattle.monitor_confined.proofs.Reaches.{open_inside}
+use Rattle.monitor_confined.proofs.Reaches.{open_inside, current_word}
 
 -- the laws of lower crates that the entry rests on
 pub record EntryLaws : Type 0 where
@@ -75,22 +76,13 @@ module _ (laws : EntryLaws) (i : Image) (t : Tables) (p : Placed i t) (s : State
 
   -- ---- the block
 
-  current_word : current i t s.ram < length t.comps
-  current_word = subst (λ (c : ℕ). c < length t.comps) (sym inv.inv.is_block.current_is) inv.inv.orderly.current_in
-
-  pub shallow : length m.saved ≤ 8
-  shallow = let x = inv.inv.orderly.is_top.3 in omega (arith, x)
-
-  user : is_unprivileged s.protection ≡ true
-  user = ap₂ (λ (a b : Bool). not a && b) inv.inv.thread inv.inv.unprivileged
-
   may_write : (a : ℕ) → by_mpu s.protection Write a ≡ true → permits s.protection.mpu true Write a ≡ true
   unfolding by_mpu
-  may_write a e = subst (λ (u : Bool). permits s.protection.mpu u Write a ≡ true) user e
+  may_write a e = subst (λ (u : Bool). permits s.protection.mpu u Write a ≡ true) (runs_unprivileged inv.inv) e
 
   store_off : (a : ℕ) → by_mpu s.protection Write a ≡ true → AreApart a 1 t.monitor block_size
   store_off a e = ⊎_elim
-      (λ f. slot_off i t (running i t s).slots a (each_at (IsCompartment i t) t.comps nobody (current i t s.ram) p.comps current_word).slots f)
+      (λ f. slot_off i t (running i t s).slots a (each_at (IsCompartment i t) t.comps nobody (current i t s.ram) p.comps (current_word i t m s inv)).slots f)
       (λ f. let lo = f.0 in let hi = open_inside i t m s inv a f.1 in ⊎_elim (λ d. inr (omega (arith, d, lo))) (λ d. inl (omega (arith, d, hi))) p.apart)
       ((laws.reach i t m s p inv).stores a (may_write a e))
 
@@ -110,7 +102,7 @@ module _ (laws : EntryLaws) (i : Image) (t : Tables) (p : Placed i t) (s : State
       ⊎_elim (λ x. omega (arith, x, e, at, b, lt, le)) (λ x. omega (arith, x, e, at, b, lt, le)) (frame_off k lk))
 
   pub memory_block : (ret : ℕ) → IsBlock i t (memory ret) m
-  memory_block ret = block_stays i t s.ram (memory ret) m shallow inv.inv.orderly.few (word_stays ret) inv.inv.is_block
+  memory_block ret = block_stays i t s.ram (memory ret) m (few_callers inv.inv.orderly) inv.inv.orderly.few (word_stays ret) inv.inv.is_block
 
   -- ---- the state
 

@@ -36,13 +36,14 @@ use Rattle.monitor_model.specs.FaultOutcome.{fault_outcome}
 use Rattle.monitor_model.specs.MonitorLaw.{IsMemory, Shows, memfault_steps}
 use Rattle.monitor_model.specs.Promises.{OfSoundImages}
 use Rattle.monitor_model.specs.BlockWords.{IsBlock, words_end}
+use Rattle.monitor_model.proofs.Invariants.{few_callers}
 use Rattle.monitor_program.specs.TheCode.{monitor_code}
+use Rattle.monitor_program.proofs.Fields.{few_slots}
 use Rattle.monitor_laws.specs.StartUp.{IsReady}
 use Rattle.monitor_laws.proofs.SoundImages.{sound_images_are_ready}
 use Rattle.monitor_laws.proofs.Fetched.{UnitLaws, page_is_fetched}
 use Rattle.monitor_laws.proofs.Effects.{ticks_of}
-use Rattle.monitor_laws.proofs.Tables.{slots_are}
-use Rattle.monitor_laws.proofs.Placement.{writable, Installed, ready_image}
+use Rattle.monitor_laws.proofs.Placement.{Installed, ready_image}
 use Rattle.monitor_laws.proofs.Off.{core, with_unit}
 use Rattle.monitor_laws.proofs.HandlerRule.{HandlerRule, runs_handle}
 use Rattle.monitor_handlers.specs.FaultLaw.{FaultLaw}
@@ -84,11 +85,8 @@ module _ (laws : FaultLaws) (i : Image) (t : Tables) (ready : IsReady i t) where
   code_room : memfault_offset (constants t) + code_length (memfault (constants t)) ≤ 4096
   code_room = there.room i t rules ready.behind_page ready.has_page ready.placed.tables_first laws.code_fits
 
-  slots_most : k.slots ≤ 12
-  slots_most = let w = writable installed in let e = slots_are i t w (stub_address t) in let m = w.most in omega (arith, e, m)
-
   code_in : CodeIn i (i.flash_base + memfault_offset (constants t)) (code (memfault (constants t)))
-  code_in = there.has_memfault i t rules ready.behind_page ready.has_page ready.placed.tables_first laws.code_fits slots_most
+  code_in = there.has_memfault i t rules ready.behind_page ready.has_page ready.placed.tables_first laws.code_fits (few_slots (stub_address t) t)
 
   module _ (s : State) (b : MonitorBlock) (u : FaultStatus) (half : ℕ) (inv : InvariantHolds i t b s) (alive : s.ending ≡ None) (fault : IsFault i s u) (holds : u.cfsr ≡ 0x82 → HoldsHalf i s.core.pc half) (opened : is_frame_open by_mpu i s ≡ true) where
     abbrev o : ℕ
@@ -226,9 +224,6 @@ module _ (laws : FaultLaws) (i : Image) (t : Tables) (ready : IsReady i t) where
       words_stay = λ z. same_memory i t words_end memory ram e;
     }
 
-    shallow : length b.saved ≤ 8
-    shallow = let x = inv.inv.orderly.is_top.3 in omega (arith, x)
-
     resuming : (d : Core) (after : List ℕ) → IsDone msp psp r u after d → ((x : ℕ) → x + 4 ≤ 544 → read 4 (t.monitor - i.ram_base + x) after ≡ read 4 (t.monitor - i.ram_base + x) memory) → FrameIsOpen i t o memory → Resuming i t s b b psp after d
     resuming d after done stays f = record {
       msp = done.sp;
@@ -240,7 +235,7 @@ module _ (laws : FaultLaws) (i : Image) (t : Tables) (ready : IsReady i t) where
       no_fault = ap (λ (v : FaultStatus). v.cfsr) done.status;
       enabled = ap (λ (v : FaultStatus). v.shcsr) done.status ∙ enabled_by fault;
       ram = record {
-        is_block = subst (λ (m : List ℕ). IsBlock i t m b) (sym done.ram) (block_stays i t memory after b shallow inv.inv.orderly.few stays at_fault.is_block);
+        is_block = subst (λ (m : List ℕ). IsBlock i t m b) (sym done.ram) (block_stays i t memory after b (few_callers inv.inv.orderly) inv.inv.orderly.few stays at_fault.is_block);
         is_memory = same_memory i t 0 after d.ram done.ram;
         words_stay = λ z. same_memory i t words_end after d.ram done.ram;
       };

@@ -1,5 +1,5 @@
 -- Frames of the stack: their words, the right to read them, and the return from them.
-use Rattle.std.proofs.Common.{◌≡◌, ℕ, zero, suc, ◌+◌, ◌-◌, ◌*◌, ◌/◌, ◌%◌, ◌<◌, ◌≤◌, inl, inr, ⊎_elim, Bool, true, false, List, [], ◌∷◌, length, get_or, nat_eq, refl, sym, ap, ap₂, ◌∙◌, subst, arith}
+use Rattle.std.proofs.Common.{◌≡◌, ℕ, zero, suc, ◌+◌, ◌-◌, ◌*◌, ◌/◌, ◌%◌, ◌<◌, ◌≤◌, inl, inr, ⊎_elim, Bool, true, false, List, [], ◌∷◌, length, get_or, nat_eq, refl, ap, ap₂, ◌∙◌, subst, arith}
 use Rattle.std.specs.Int.{IsPowerOfTwo}
 use Rattle.base_words.specs.Arithmetic.{word}
 use Rattle.base_words.specs.Bytes.{read}
@@ -37,10 +37,9 @@ use Rattle.monitor_model.specs.Placed.{Placed, IsCompartment, IsSlot}
 use Rattle.monitor_model.specs.Invariant.{IsTop}
 use Rattle.monitor_model.specs.Outcomes.{stacked}
 use Rattle.monitor_laws.proofs.Numbers.{times_over}
-use Rattle.monitor_laws.proofs.Tables.{StackSize, stack_size}
+use Rattle.monitor_laws.proofs.Tables.{size_of_stack}
 use Rattle.machine_model.proofs.StackWords.{get_or-words_at as nth_word, behind, head_place, stacked_are}
 use Rattle.base_laws.proofs.Lists.{each_at}
-use Rattle.base_ranges.specs.Ranges.{IsPowerBetween}
 
 -- ---- words
 
@@ -98,9 +97,6 @@ pub record StackLaws : Type 0 where
   pub rights : RegionsGiveTheirRights
 
 module _ (laws : StackLaws) (i : Image) (t : Tables) (p : Placed i t) where
-  size_is : StackSize t.stack.size
-  size_is = stack_size t.stack.size (subst (λ z. IsPowerBetween 9 16 z) (sym p.stack_size) p.stack.size)
-
   no_slot_holds : (gs : List Region) → Each (IsSlot i t) gs → (a : ℕ) → t.stack.base ≤ a → a < stack_end t → NoneOf gs a
   no_slot_holds [] e a lo hi = tt
   no_slot_holds (g ∷ gs) e a lo hi = (off (holds g a) refl, no_slot_holds gs e.1 a lo hi)
@@ -127,12 +123,12 @@ module _ (laws : StackLaws) (i : Image) (t : Tables) (p : Placed i t) where
       most = grind (arith, few)
 
       below_end : a < stack_end t
-      below_end = let z = size_is.eighths in let b = is.1 in let h = most in omega (arith, z, b, h, hi)
+      below_end = let z = (size_of_stack p).eighths in let b = is.1 in let h = most in omega (arith, z, b, h, hi)
 
       above : (top - t.stack.base) / eighth t ≡ k
       above =
           let d : top - t.stack.base ≡ k * eighth t = (let b = is.1 in omega (arith, b)) in
-          ap (λ x. x / eighth t) d ∙ times_over k (eighth t) (let l = size_is.least in omega (arith, l))
+          ap (λ x. x / eighth t) d ∙ times_over k (eighth t) (let l = (size_of_stack p).least in omega (arith, l))
 
       power : IsPowerOfTwo t.stack.size
       power = (p.stack.size.0, p.stack_size ∙ p.stack.size.3)
@@ -143,7 +139,7 @@ module _ (laws : StackLaws) (i : Image) (t : Tables) (p : Placed i t) where
       held : holds (stack_region t top) a ≡ true
       held =
           ap (λ n. holds (region_of 3 t.stack.base t.stack.size (closed_from n) Stack) a) above
-          ∙ (laws.opened 3 t.stack.base t.stack.size k Stack (omega arith) power (let l = size_is.least in let z = size_is.eighths in omega (arith, l, z)) (let z = size_is.most in omega (arith, z)) aligned few a).1
+          ∙ (laws.opened 3 t.stack.base t.stack.size k Stack (omega arith) power (let l = (size_of_stack p).least in let z = (size_of_stack p).eighths in omega (arith, l, z)) (let z = (size_of_stack p).most in omega (arith, z)) aligned few a).1
           (lo, subst (λ e. a < e) is.1 hi)
 
       allowed : allows (stack_region t top) true Read ≡ true

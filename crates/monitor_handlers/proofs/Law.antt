@@ -43,16 +43,15 @@ use Rattle.monitor_model.specs.Handlers.{at_svc, Leads}
 use Rattle.monitor_model.specs.Outcomes.{Halts, StopsAtBus}
 use Rattle.monitor_model.specs.SvcOutcome.{enter_at, by_number, svc_outcome}
 use Rattle.monitor_program.specs.Svc.{svc}
+use Rattle.monitor_program.proofs.Fields.{few_slots}
 use Rattle.monitor_model.specs.MonitorLaw.{Shows, svc_steps}
 use Rattle.monitor_laws.proofs.Checked.{none_fails, begins_with, head_is}
 use Rattle.monitor_laws.proofs.Effects.{ticks_of}
 use Rattle.monitor_laws.proofs.Fetched.{UnitLaws}
 use Rattle.monitor_laws.proofs.HandlerRule.{HandlerRule, runs_handle}
 use Rattle.monitor_laws.proofs.Opened.{FrameIsOpen}
-use Rattle.monitor_laws.proofs.Placement.{writable}
 use Rattle.monitor_laws.proofs.SoundImages.{sound_images_are_placed}
 use Rattle.monitor_laws.proofs.SvcNumber.{Called}
-use Rattle.monitor_laws.proofs.Tables.{slots_are}
 use Rattle.monitor_handlers.specs.SvcLaw.{SvcLaw}
 use Rattle.monitor_handlers.proofs.Mode.{mode_kept, IsGood}
 use Rattle.monitor_handlers.proofs.Targets.{SiteFits, sites_fit}
@@ -61,7 +60,7 @@ use Rattle.monitor_handlers.proofs.SvcCode.{offset, room, has_svc, vector_is, of
 use Rattle.monitor_handlers.proofs.Entry as entry
 use Rattle.monitor_handlers.proofs.Entry.{EntryLaws}
 use Rattle.monitor_handlers.proofs.Returned.{ReturnLaws, concluded}
-use Rattle.monitor_handlers.proofs.Calling.{Calling, good_entry, outcome_open, outcome_shut, installed_at}
+use Rattle.monitor_handlers.proofs.Calling.{Calling, good_entry, outcome_open, outcome_shut}
 use Rattle.monitor_handlers.proofs.Numbers as by
 use Rattle.monitor_handlers.proofs.Bus as bus
 use Rattle.monitor_handlers.proofs.Frames.{stacked_is}
@@ -170,11 +169,8 @@ module _ (laws : CallLaws) (i : Image) (t : Tables) (fit : IsFit i t) (s : State
   code_room : offset i t p.rules fit.behind fit.has_page p.tables_first laws.code_fits + code_length (svc k) ≤ 4096
   code_room = room i t p.rules fit.behind fit.has_page p.tables_first laws.code_fits
 
-  slots_most : k.slots ≤ 12
-  slots_most = let w = writable (installed_at calling stub) in let e = slots_are i t w stub in let m = w.most in omega (arith, e, m)
-
   code_there : CodeIn i pc0 (code (svc k))
-  code_there = has_svc i t p.rules fit.behind fit.has_page p.tables_first laws.code_fits slots_most
+  code_there = has_svc i t p.rules fit.behind fit.has_page p.tables_first laws.code_fits (few_slots stub t)
 
   abbrev low : ℕ → ℕ
   low j = entry.low laws.entry i t p s m inv alive opened j

@@ -1,5 +1,5 @@
 -- The handler's list, number by number: it comes to its outcome.
-use Rattle.std.proofs.Common.{◌≡◌, ℕ, ◌+◌, ◌-◌, ◌%◌, ◌^◌, ◌<◌, ◌≤◌, true, List, [], ◌∷◌, length, Some, refl, sym, ap, ap₂, ◌∙◌, subst, arith}
+use Rattle.std.proofs.Common.{◌≡◌, ℕ, ◌+◌, ◌-◌, ◌%◌, ◌<◌, ◌≤◌, true, List, [], ◌∷◌, length, Some, refl, sym, ap, ap₂, ◌∙◌, subst, arith}
 use Rattle.base_words.specs.Bytes.{read}
 use Rattle.machine_protection.specs.declared.TheConstants.{MPU_CTRL}
 use Rattle.machine_devices.specs.declared.image.Image.{Image}
@@ -31,7 +31,7 @@ use Rattle.monitor_laws.proofs.Lend.{two_within}
 use Rattle.monitor_laws.proofs.Leave.{leave_within, leave_last_within, with_regions}
 use Rattle.monitor_handlers.proofs.Enter.{enter_within, Asks}
 use Rattle.monitor_handlers.proofs.Targets.{target_is}
-use Rattle.monitor_handlers.proofs.Calling.{Calling, A, off, is_off, good_on, good_again, halted, frame, top_below, top_word, top_word_below, top_before, word_before, frame_before, outcome_open, outcome_shut, unlend_halts, unlend_goes, address, number, live, address_is, number_is, lend_halts, lend_goes, installed_at}
+use Rattle.monitor_handlers.proofs.Calling.{Calling, A, off, is_off, good_on, good_again, halted, frame, top_below, top_word, top_word_below, top_before, word_before, frame_before, outcome_open, outcome_shut, unlend_halts, unlend_goes, address, number, live, address_is, number_is, lend_halts, lend_goes, installed_at, offset_low}
 use Rattle.monitor_handlers.proofs.Crossing.{first_regions, saved_is, back_frame, here_frame, leaving, leave_goes, no_site_halts, no_target_halts, no_stack_halts, enter_goes}
 use Rattle.monitor_handlers.proofs.Mode.{IsGood, good_while_off}
 
@@ -150,13 +150,10 @@ module _ (i : Image) (t : Tables) (stub : ℕ) (s : State) (m : MonitorBlock) (p
   abbrev pub at_first : (a0 a1 a2 a3 a4 a5 a6 a7 : ℕ) → Core
   at_first a0 a1 a2 a3 a4 a5 a6 a7 = core msp psp (record s.protection { handler = true }) s.status memory a0 a1 a2 a3 a4 a5 a6 a7
 
-  small : o < 2 ^ 31
-  small = let x = c.fits in let y = c.placed.rules.ram_most in omega (arith, x, y)
-
   pub numbered : (b ret n : ℕ) (a0 a1 a2 a3 a4 a5 a6 a7 : ℕ) → read 4 (o + 24) memory ≡ ret → Called i ret n → (FrameIsOpen i t o memory → W b numbers [] (at_number ret n) (Q (by_number i t stub m psp memory n))) →
       W (54 + b) (svc k) [] (at_first a0 a1 a2 a3 a4 a5 a6 a7) (Q (svc_outcome i t stub m psp memory n))
   numbered b ret n a0 a1 a2 a3 a4 a5 a6 a7 er called go =
-      number_within premises o n refl refl c.at c.aligned small (top_word_below i t stub s m psp o memory c) (word_before i t stub s m psp o memory c) (subst (λ r. Called i r n) (sym er) called)
+      number_within premises o n refl refl c.at c.aligned (offset_low i t stub s m psp o memory c) (top_word_below i t stub s m psp o memory c) (word_before i t stub s m psp o memory c) (subst (λ r. Called i r n) (sym er) called)
       (λ d r shut. subst (λ h. Q h (Halted 4 d)) (sym (outcome_shut i t stub s m psp o memory c n shut)) (halted i t stub s m psp o memory c 4 d r))
       (λ q1 eq off1 f.
       at_within (ap (λ q. core msp psp q s.status memory psp k.block k.stack (read 4 (t.monitor - i.ram_base + 4) memory) (read 4 (o + 24) memory) n MPU_CTRL 0) eq ∙ ap₂ (λ x y. core msp psp here s.status memory psp k.block k.stack x y n MPU_CTRL 0) (top_word i t stub s m psp o memory c) er)

@@ -1,14 +1,13 @@
 -- The code of the handler of SVC has an encoding, and names r0 to r7 alone.
 use Rattle.std.proofs.Common.{◌≡◌, ℕ, ◌+◌, ◌^◌, ◌<◌, ◌≤◌, true, refl, arith}
-use Rattle.std.proofs.lemmas.Nat.{trailing_le}
 use Rattle.machine_thumb.specs.Bytes.{EachInTable}
 use Rattle.monitor_steps.specs.Steps.{names_low}
 use Rattle.monitor_steps.specs.Code.{code_length, code}
 use Rattle.monitor_model.specs.declared.tables.Tables.{Tables}
-use Rattle.monitor_model.specs.Records.{eighth as eighth_of}
 use Rattle.monitor_program.specs.Constants.{Constants, constants_with}
 use Rattle.monitor_program.specs.Opening.{bits_of, tables_of, closed_up}
 use Rattle.monitor_program.specs.Svc.{target_turn, enter, leave, lend, unlend, svc}
+use Rattle.monitor_program.proofs.Fields.{eighth_word}
 use Rattle.monitor_laws.proofs.Appended.{tables_low}
 use Rattle.monitor_handlers.proofs.Encodable.{Words, words_fit, times_words, regions_words}
 use Rattle.monitor_laws.proofs.Encoded.{fits_fields, in_table, tables_fields}
@@ -19,20 +18,17 @@ module _ (stub : ℕ) (t : Tables) where
   abbrev c : Constants
   c = constants_with stub t
 
-  eighth : c.eighth < 2 ^ 32
-  eighth = let e = trailing_le 32 (eighth_of t) in omega (arith, e)
-
   closed : Words closed_up
   closed = (omega arith, (omega arith, tt))
 
   tables : Words (tables_of c closed_up)
-  tables = (omega arith, times_words (bits_of 4 (c.slots + 2)) _ (omega arith, (omega arith, (omega arith, (omega arith, (eighth, (omega arith, (omega arith, (omega arith, (omega arith, (omega arith, regions_words c.slots 2 closed_up closed)))))))))))
+  tables = (omega arith, times_words (bits_of 4 (c.slots + 2)) _ (omega arith, (omega arith, (omega arith, (omega arith, (eighth_word stub t, (omega arith, (omega arith, (omega arith, (omega arith, (omega arith, regions_words c.slots 2 closed_up closed)))))))))))
 
   a_turn : Words target_turn
   a_turn = ((tt, tt, (omega arith, tt)))
 
   enter_words : Words (enter c)
-  enter_words = (omega arith, (tt, tt, (omega arith, (omega arith, (tt, tt, (omega arith, (omega arith, (omega arith, (a_turn, (omega arith, (tt, tt, (eighth, (omega arith, (tt, tt, (omega arith, (omega arith, (omega arith, (omega arith, (omega arith, (omega arith, (omega arith, (omega arith, tables))))))))))))))))))))))
+  enter_words = (omega arith, (tt, tt, (omega arith, (omega arith, (tt, tt, (omega arith, (omega arith, (omega arith, (a_turn, (omega arith, (tt, tt, (eighth_word stub t, (omega arith, (tt, tt, (omega arith, (omega arith, (omega arith, (omega arith, (omega arith, (omega arith, (omega arith, (omega arith, tables))))))))))))))))))))))
 
   leave_words : Words (leave c)
   leave_words = (omega arith, (tt, tt, (omega arith, (omega arith, tables))))

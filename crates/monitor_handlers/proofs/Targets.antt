@@ -13,6 +13,7 @@ use Rattle.monitor_model.specs.Layout.{head_at, sites_at, targets_at}
 use Rattle.monitor_model.specs.Area.{compartment_words, site_words, target_words, head, area}
 use Rattle.monitor_model.specs.Checks.{must, and_then, each_record, is_site, is_target, is_entry, sites_fail}
 use Rattle.monitor_model.specs.Placed.{IsEntry}
+use Rattle.monitor_model.proofs.Beyond.{no_target}
 use Rattle.monitor_program.specs.Constants.{Constants, constants_with}
 use Rattle.monitor_laws.proofs.Checked.{must_none, and_none}
 use Rattle.monitor_laws.proofs.FlashWords.{Has, flash_has, has_front, has_back, has_record, records_length}
@@ -48,9 +49,6 @@ sites_fit t h =
     each_fits t (sites_at t) t.sites a.0
 
 -- ---- the chosen target
-
-abbrev pub no_target : TargetRecord
-no_target = record { entry = 0; compartment = 0 }
 
 -- the compartment of a target, or all ones
 abbrev pub compartment_of : Option TargetRecord → ℕ

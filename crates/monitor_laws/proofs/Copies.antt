@@ -23,14 +23,12 @@ use Rattle.monitor_model.specs.declared.tables.InitRecord.{InitRecord}
 use Rattle.monitor_model.specs.Records.{words_in}
 use Rattle.monitor_model.specs.Area.{init_words}
 use Rattle.monitor_model.specs.Starts.{with_words, with_all_words}
+use Rattle.monitor_model.proofs.Beyond.{no_init}
 use Rattle.monitor_program.specs.Constants.{Constants}
 use Rattle.monitor_program.specs.Reset.{word_turn, init_turn}
 use Rattle.monitor_laws.proofs.Numbers.{quarter}
 use Rattle.monitor_laws.proofs.Off.{core}
 use Rattle.monitor_laws.proofs.FlashWords.{Has}
-
-abbrev pub nothing : InitRecord
-nothing = record { at = 0; end = 0; from = 0 }
 
 -- a range of RAM and its words in flash, at least one, which may be written
 pub record IsCopied (i : Image) (Allowed : Rule) (x : InitRecord) : Type 0 where
@@ -47,29 +45,29 @@ pub record IsCopied (i : Image) (Allowed : Rule) (x : InitRecord) : Type 0 where
 -- steps for the last n ranges and the loop's end
 abbrev pub last_steps : List InitRecord → (total n : ℕ) → ℕ
 last_steps xs total zero = 3
-last_steps xs total (suc n) = 26 + 16 * words_in (get_or xs (total - suc n) nothing) + last_steps xs total n
+last_steps xs total (suc n) = 26 + 16 * words_in (get_or xs (total - suc n) no_init) + last_steps xs total n
 
 -- the last n of so many
 pub record AreLast (xs ns : List InitRecord) (total n : ℕ) : Type 0 where
   pub few : n ≤ total
   pub count : length ns ≡ n
-  pub same : (k : ℕ) → get_or ns k nothing ≡ get_or xs (total - n + k) nothing
+  pub same : (k : ℕ) → get_or ns k no_init ≡ get_or xs (total - n + k) no_init
 
 pub all_are_last : (xs : List InitRecord) → AreLast xs xs (length xs) (length xs)
-all_are_last xs = record { few = omega arith; count = refl; same = λ k. let e : k ≡ length xs - length xs + k = omega arith in ap (λ n. get_or xs n nothing) e }
+all_are_last xs = record { few = omega arith; count = refl; same = λ k. let e : k ≡ length xs - length xs + k = omega arith in ap (λ n. get_or xs n no_init) e }
 
 behind_first : (xs ns : List InitRecord) (x : InitRecord) (total n : ℕ) → AreLast xs (x ∷ ns) total (suc n) → AreLast xs ns total n
 behind_first xs ns x total n l = record {
   few = let f = l.few in omega (arith, f);
   count = let c = l.count in omega (arith, c);
-  same = λ k. l.same (suc k) ∙ ap (λ n. get_or xs n nothing) (let f = l.few in moved k f);
+  same = λ k. l.same (suc k) ∙ ap (λ n. get_or xs n no_init) (let f = l.few in moved k f);
 }
   where
     moved : (k : ℕ) → suc n ≤ total → total - suc n + suc k ≡ total - n + k
     moved k f = omega (arith, f)
 
-first_is : (xs ns : List InitRecord) (x : InitRecord) (total n : ℕ) → AreLast xs (x ∷ ns) total (suc n) → x ≡ get_or xs (total - suc n) nothing
-first_is xs ns x total n l = l.same 0 ∙ ap (λ n. get_or xs n nothing) (let e : total - suc n + 0 ≡ total - suc n = omega arith in e)
+first_is : (xs ns : List InitRecord) (x : InitRecord) (total n : ℕ) → AreLast xs (x ∷ ns) total (suc n) → x ≡ get_or xs (total - suc n) no_init
+first_is xs ns x total n l = l.same 0 ∙ ap (λ n. get_or xs n no_init) (let e : total - suc n + 0 ≡ total - suc n = omega arith in e)
 
 -- all steps are few for the number of words
 last_steps_are_few : (i : Image) (Allowed : Rule) (xs ns : List InitRecord) (total n : ℕ) → Each (IsCopied i Allowed) ns → AreLast xs ns total n → last_steps xs total n ≤ 3 + 42 * sum_by words_in ns
@@ -78,9 +76,9 @@ last_steps_are_few i Allowed xs [] total (suc n) e l = absurd (let c = l.count i
 last_steps_are_few i Allowed xs (x ∷ ns) total zero e l = absurd (let c = l.count in omega (arith, c))
 last_steps_are_few i Allowed xs (x ∷ ns) total (suc n) e l =
     let h = last_steps_are_few i Allowed xs ns total n e.1 (behind_first xs ns x total n l) in
-    let f : words_in x ≡ words_in (get_or xs (total - suc n) nothing) = ap words_in (first_is xs ns x total n l) in
-    subst (λ s. 26 + 16 * words_in (get_or xs (total - suc n) nothing) + last_steps xs total n ≤ 3 + 42 * s) (sym (sum_by-cons words_in x ns))
-    (one_more (words_in x) (words_in (get_or xs (total - suc n) nothing)) (last_steps xs total n) (sum_by words_in ns) h f e.0.some)
+    let f : words_in x ≡ words_in (get_or xs (total - suc n) no_init) = ap words_in (first_is xs ns x total n l) in
+    subst (λ s. 26 + 16 * words_in (get_or xs (total - suc n) no_init) + last_steps xs total n ≤ 3 + 42 * s) (sym (sum_by-cons words_in x ns))
+    (one_more (words_in x) (words_in (get_or xs (total - suc n) no_init)) (last_steps xs total n) (sum_by words_in ns) h f e.0.some)
   where
     one_more : (w v l s : ℕ) → l ≤ 3 + 42 * s → w ≡ v → 1 ≤ w → 26 + 16 * v + l ≤ 3 + 42 * (w + s)
     one_more w v l s a b c = omega (arith, a, b, c)
@@ -320,11 +318,11 @@ module _ (i : Image) (rules : ObeysRules i) (t : Constants) (Good : ProtectionSt
         one_less : suc n ≤ total → subtract (suc n) 1 ≡ n
         one_less a = omega (arith, a, small)
 
-    fill_turn : (final : List ℕ) (xs : List InitRecord) (a5 a7 total n : ℕ) (c : Core) → total < 2 ^ 20 → Filling final xs a5 a7 total (suc n) c → R (22 + 16 * words_in (get_or xs (total - suc n) nothing)) (init_turn t) [] c (Fills final xs a5 a7 total n)
+    fill_turn : (final : List ℕ) (xs : List InitRecord) (a5 a7 total n : ℕ) (c : Core) → total < 2 ^ 20 → Filling final xs a5 a7 total (suc n) c → R (22 + 16 * words_in (get_or xs (total - suc n) no_init)) (init_turn t) [] c (Fills final xs a5 a7 total n)
     fill_turn final xs a5 a7 total n c small p = at_within p.is (go p.left p.last p.ranges p.small p.has p.final_is)
       where
         go : (left : List InitRecord) → AreLast xs left total (suc n) → Each (IsCopied i Allowed) left → Each (λ x. words_in x ≤ t.words) left → Has i p.offset (flat_map init_words left) → with_all_words i left p.ram ≡ final →
-            R (22 + 16 * words_in (get_or xs (total - suc n) nothing)) (init_turn t) [] (core msp psp q u p.ram p.v0 (suc n) p.v2 p.v3 p.v4 a5 p.v6 a7) (Fills final xs a5 a7 total n)
+            R (22 + 16 * words_in (get_or xs (total - suc n) no_init)) (init_turn t) [] (core msp psp q u p.ram p.v0 (suc n) p.v2 p.v3 p.v4 a5 p.v6 a7) (Fills final xs a5 a7 total n)
         go [] l hs ws has fin = absurd (let c = l.count in omega (arith, c))
         go (x ∷ left) l hs ws has fin =
             subst (λ y. R (22 + 16 * words_in y) (init_turn t) [] (core msp psp q u p.ram p.v0 (suc n) p.v2 p.v3 p.v4 a5 p.v6 a7) (Fills final xs a5 a7 total n)) (first_is xs left x total n l)
@@ -337,15 +335,15 @@ module _ (i : Image) (rules : ObeysRules i) (t : Constants) (Good : ProtectionSt
     fill_within xs ram a5 a7 o {b} {k} {ks} {Q} a2 a3 a4 a6 hs ws has al small few w =
         let final : List ℕ = with_all_words i xs ram in
         let total : ℕ = length xs in
-        loop_within (Filling final xs a5 a7 total) (λ n. 22 + 16 * words_in (get_or xs (total - suc n) nothing)) (λ n. last_steps xs total n) total (omega arith) (λ n. step total n) (λ n c p. ap (λ c. low_register c 1) p.is) (λ n c p. fill_turn final xs a5 a7 total n c small p) few
+        loop_within (Filling final xs a5 a7 total) (λ n. 22 + 16 * words_in (get_or xs (total - suc n) no_init)) (λ n. last_steps xs total n) total (omega arith) (λ n. step total n) (λ n c p. ap (λ c. low_register c 1) p.is) (λ n c p. fill_turn final xs a5 a7 total n c small p) few
         (record { left = xs; last = all_are_last xs; ranges = hs; small = ws; offset = o; has = has; aligned = al; v0 = i.flash_base + o; v2 = a2; v3 = a3; v4 = a4; v6 = a6; ram = ram; at = refl; final_is = refl; is = refl })
         (λ d p. at_within (p.is ∙ ap (λ m. core msp psp q u m p.v0 0 p.v2 p.v3 p.v4 a5 p.v6 a7) (done final p.left p.last.count p.ram p.final_is)) (w p.v0 p.v2 p.v3 p.v4 p.v6))
       where
         counted : (w l : ℕ) → 22 + 16 * w + 4 + l ≤ 26 + 16 * w + l
         counted w l = omega arith
 
-        step : (total n : ℕ) → 22 + 16 * words_in (get_or xs (total - suc n) nothing) + 4 + last_steps xs total n ≤ last_steps xs total (suc n)
-        step total n = counted (words_in (get_or xs (total - suc n) nothing)) (last_steps xs total n)
+        step : (total n : ℕ) → 22 + 16 * words_in (get_or xs (total - suc n) no_init) + 4 + last_steps xs total n ≤ last_steps xs total (suc n)
+        step total n = counted (words_in (get_or xs (total - suc n) no_init)) (last_steps xs total n)
 
         done : (final : List ℕ) (left : List InitRecord) → length left ≡ 0 → (m : List ℕ) → with_all_words i left m ≡ final → m ≡ final
         done final [] z m e = e

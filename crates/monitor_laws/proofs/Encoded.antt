@@ -21,6 +21,7 @@ use Rattle.monitor_program.specs.Opening.{times, bits_of, regions, tables_of, st
 use Rattle.monitor_program.specs.Reset.{init_turn, thread_ready, to_main}
 use Rattle.monitor_laws.proofs.ResetList.{before_control}
 use Rattle.machine_thumb.proofs.Codes.{in_table-append as each_append}
+use Rattle.machine_thumb.proofs.Offsets.{two_offset}
 
 -- registers, offsets and numbers of halts fit into their fields
 abbrev pub fits_fields : PrivilegedSteps → Bool
@@ -89,9 +90,6 @@ condition_small : (c : PrivilegedCond) → condition_number c < 14
 condition_small Eq = omega arith
 condition_small Ult = omega arith
 condition_small Ule = omega arith
-
-two_offset : IsOffset 256 (pos 2)
-two_offset = record { from = le_z_yes tt; below = lt_z_yes tt; even = refl }
 
 pub in_table : (s : PrivilegedSteps) → fits_fields s ≡ true → Fits s → EachInTable (code s)
 in_table End f n = tt

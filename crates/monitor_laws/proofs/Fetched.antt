@@ -1,5 +1,5 @@
 -- While a compartment's regions are written and the unit is on, the page's code may be fetched.
-use Rattle.std.proofs.Common.{◌≡◌, ℕ, ◌+◌, ◌-◌, ◌/◌, ◌%◌, ◌^◌, ◌<◌, ◌≤◌, Bool, true, false, List, [], ◌∷◌, map, length, Some, None, refl, sym, ap, ap₂, ◌∙◌, subst, arith}
+use Rattle.std.proofs.Common.{◌≡◌, ℕ, ◌+◌, ◌-◌, ◌/◌, ◌%◌, ◌^◌, ◌<◌, ◌≤◌, Bool, true, false, List, [], ◌∷◌, map, length, Some, None, refl, ap, ap₂, ◌∙◌, arith}
 use Rattle.std.proofs.lemmas.Nat.Bits.{bit_at-zero}
 use Rattle.std.proofs.lemmas.Bool.Decides.{nat_tests}
 use Rattle.std.specs.Int.{IsPowerOfTwo, bit_at}
@@ -13,7 +13,6 @@ use Rattle.machine_protection.specs.Laws.{kept_region, RegionsAreKept, RegionsHo
 use Rattle.machine_protection.specs.Configured.{closed_from}
 use Rattle.machine_protection.proofs.Configured.{closed_byte}
 use Rattle.machine_devices.specs.declared.image.Image.{Image}
-use Rattle.base_ranges.specs.Ranges.{IsPowerBetween}
 use Rattle.machine_model.specs.declared.state.ProtectionState.{ProtectionState}
 use Rattle.machine_model.specs.State.{by_mpu, is_unprivileged}
 use Rattle.base_laws.specs.Lists.{Each}
@@ -23,7 +22,7 @@ use Rattle.monitor_model.specs.Records.{compartment_at, nobody, eighth}
 use Rattle.monitor_model.specs.Layout.{tables_size}
 use Rattle.monitor_model.specs.Regions.{tables_region, stack_region, regions_for}
 use Rattle.monitor_model.specs.Placed.{Placed, IsCompartment, IsSlot, InFlashOf}
-use Rattle.monitor_laws.proofs.Tables.{stack_size}
+use Rattle.monitor_laws.proofs.Tables.{size_of_stack}
 use Rattle.std.proofs.lemmas.Bool.{and_parts}
 use Rattle.base_laws.proofs.Lists.{each_at}
 use Rattle.monitor_model.proofs.Multiples.{divides}
@@ -80,10 +79,10 @@ module _ (laws : UnitLaws) (i : Image) (t : Tables) (p : Placed i t) (room : 409
       power = (p.stack.size.0, p.stack_size ∙ p.stack.size.3)
 
       least : 32 ≤ t.stack.size
-      least = let z = stack_size t.stack.size (subst (λ z. IsPowerBetween 9 16 z) (sym p.stack_size) p.stack.size) in let a = z.least in let b = z.eighths in omega (arith, a, b)
+      least = let z = size_of_stack p in let a = z.least in let b = z.eighths in omega (arith, a, b)
 
       most : t.stack.size < 2 ^ 32
-      most = let z = stack_size t.stack.size (subst (λ z. IsPowerBetween 9 16 z) (sym p.stack_size) p.stack.size) in let a = z.most in omega (arith, a)
+      most = let z = size_of_stack p in let a = z.most in omega (arith, a)
 
       aligned : t.stack.base % t.stack.size ≡ 0
       aligned = ap₂ (λ b z. b % z) p.stack_base p.stack_size ∙ p.stack.aligned

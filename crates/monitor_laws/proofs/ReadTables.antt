@@ -95,10 +95,6 @@ slots_first : (bytes : List ℕ) (s z n o : ℕ) → 1 ≤ n → slots_of_first 
 slots_first bytes s z zero o h = absurd (omega (arith, h))
 slots_first bytes s z (suc n) o h = length-records (region_at bytes) 8 s (o + 8)
 
--- the tables of an image, as they are read
-abbrev pub read_from : MonitorCode → Image → Tables
-read_from code i = tables_behind code i (drop 4096 i.flash)
-
 module _ (code : MonitorCode) (i : Image) (room : 4096 + 32 ≤ length i.flash) where
   abbrev pub bytes : List ℕ
   bytes = drop 4096 i.flash

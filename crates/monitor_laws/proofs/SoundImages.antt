@@ -21,12 +21,13 @@ use Rattle.monitor_model.specs.Checks.{must, inits_from, is_init}
 use Rattle.monitor_model.specs.Sound.{Sound}
 use Rattle.monitor_model.specs.Placed.{Placed, IsCompartment, SoundImagesArePlaced}
 use Rattle.monitor_model.specs.Promises.{ImagesStart}
+use Rattle.monitor_model.proofs.ReadFrom.{read_from}
 use Rattle.monitor_program.specs.TheCode.{monitor_code}
 use Rattle.monitor_laws.specs.StartUp.{IsInit, IsReady, ReadyImagesStart}
 use Rattle.monitor_laws.proofs.Checked.{must_none, and_none, begins_with, NoneFails, none_fails, Header, header_is, TableHead, head_is, regions_are, entries_are}
 use Rattle.monitor_laws.proofs.RegionForms.{Grounds, comp_is}
 use Rattle.monitor_laws.proofs.Sizes.{IsSize, tables_size_is}
-use Rattle.monitor_laws.proofs.ReadTables.{read_from, has_tables, slot_count, each_count, word_total}
+use Rattle.monitor_laws.proofs.ReadTables.{has_tables, slot_count, each_count, word_total}
 use Rattle.monitor_laws.proofs.Numbers.{product}
 
 four_more : (r : ℕ) → (r ≡ 8) ⊎ (r ≡ 16) → (r ≡ 4 + (r - 4)) × (r - 4 ≤ 12)

@@ -20,6 +20,7 @@ use Rattle.monitor_model.specs.declared.tables.TargetRecord.{TargetRecord}
 use Rattle.monitor_model.specs.declared.tables.Tables.{Tables}
 use Rattle.monitor_model.specs.Records.{nobody, compartment_at, number_of_slots, eighth}
 use Rattle.monitor_model.specs.Layout.{head_at}
+use Rattle.monitor_model.specs.Placed.{Placed}
 use Rattle.monitor_model.specs.Area.{region_words, compartment_words, site_words, target_words, head, area}
 use Rattle.monitor_model.specs.Regions.{background, tables_region, stack_region, regions_for}
 use Rattle.monitor_program.specs.Constants.{Constants, constants_with}
@@ -57,6 +58,10 @@ size_by z k e (inr (inr (inr (inr (inr (inr (inr h))))))) = rw (e, h) (record { 
 
 pub stack_size : (z : ℕ) → IsPowerBetween 9 16 z → StackSize z
 stack_size z p = size_by z p.0 p.3 (nine_to_sixteen p.0 p.1 p.2)
+
+-- the stack's, where the tables are those of the board
+pub size_of_stack : {i : Image} {t : Tables} → Placed i t → StackSize t.stack.size
+size_of_stack {i} {t} p = stack_size t.stack.size (subst (λ z. IsPowerBetween 9 16 z) (sym p.stack_size) p.stack.size)
 
 -- ---- the words of a compartment
 

@@ -1,1 +1,4 @@
 pub mod Multiples
+pub mod Invariants
+pub mod Beyond
+pub mod ReadFrom

@@ -8,6 +8,7 @@ use Rattle.base_words.specs.Bytes.{read}
 use Rattle.base_words.specs.Runs.{run}
 use Rattle.machine_thumb.specs.declared.table.Instr.{Instr}
 use Rattle.machine_thumb.specs.declared.table.Instr.TheVariants.{TransferImmediate}
+use Rattle.machine_thumb.specs.Table.{svc}
 use Rattle.machine_devices.specs.declared.image.Image.{Image}
 use Rattle.machine_devices.specs.Rules.{block_size}
 use Rattle.machine_bus.specs.Access.{HoldsBytes}
@@ -31,7 +32,7 @@ use Rattle.monitor_model.specs.Confined.{IsSvc}
 use Rattle.monitor_model.specs.Invariant.{InvariantHolds}
 use Rattle.monitor_model.specs.Handlers.{at_svc, at_memfault, IsFault, Leads}
 use Rattle.monitor_model.specs.Setting.{has_code, may_store, may_load, has_loan, has_read_loan}
-use Rattle.monitor_model.specs.Threads.{svc, access_steps}
+use Rattle.monitor_model.specs.Threads.{access_steps}
 
 -- ---- reach without a loan
 

@@ -6,6 +6,7 @@ use Rattle.std.proofs.Math.ListN.{get_or}
 use Rattle.base_words.specs.declared.conditions.Flags.{Flags}
 use Rattle.base_words.specs.Bytes.{read, write}
 use Rattle.machine_thumb.specs.declared.table.Instr.TheVariants.{TransferImmediate}
+use Rattle.machine_thumb.specs.Table.{svc}
 use Rattle.machine_protection.specs.declared.region.Access.{Access}
 use Rattle.machine_protection.specs.declared.region.Access.TheVariants.{Read, Write, Fetch}
 use Rattle.machine_bus.specs.Locations.{location, InRam}
@@ -21,7 +22,7 @@ use Rattle.monitor_model.specs.Block.{MonitorBlock, Loan, entered, lent}
 use Rattle.monitor_model.specs.BlockWords.{words_end}
 use Rattle.monitor_model.specs.Halts.{halt_end}
 use Rattle.monitor_model.specs.Setting.{Setting}
-use Rattle.monitor_model.specs.Threads.{svc, call_steps, lend_steps, access_steps, base, stack_end, first_block, HasRoom, OffFrame, IsLentTo, AtInstr, Resumes, Enters, Leaves, Begins}
+use Rattle.monitor_model.specs.Threads.{call_steps, lend_steps, access_steps, base, stack_end, first_block, HasRoom, OffFrame, IsLentTo, AtInstr, Resumes, Enters, Leaves, Begins}
 
 module _ (g : Setting) (Inv : MonitorBlock → Context → List ℕ → Type 0) where
   -- ---- the invariant itself

@@ -1,12 +1,11 @@
 -- Beyond the program's claim: only laws, proofs and functions inside the tool cite this file.
 -- Threads as a simulation of source runs sees them: over any invariant of the block's lists, and with all that a handler may
 -- change told once, so that every rule of the law has one shape. Offsets are from RAM's base.
-use Rattle.std.specs.Prelude.{◌≡◌, ℕ, ◌+◌, ◌-◌, ◌*◌, ◌/◌, ◌%◌, ◌^◌, ◌<◌, ◌≤◌, ◌⊎◌, List, [], length, Bool, true, false, nat_eq, pos}
+use Rattle.std.specs.Prelude.{◌≡◌, ℕ, ◌+◌, ◌-◌, ◌*◌, ◌/◌, ◌%◌, ◌^◌, ◌<◌, ◌≤◌, ◌⊎◌, List, [], length, Bool, true, false, nat_eq}
 use Rattle.std.proofs.Math.ListN.{get_or}
 use Rattle.base_words.specs.declared.conditions.Flags.{Flags}
 use Rattle.base_words.specs.Bytes.{read, cut}
 use Rattle.machine_thumb.specs.declared.table.Instr.{Instr}
-use Rattle.machine_thumb.specs.declared.table.Instr.TheVariants.{CallBranch}
 use Rattle.machine_devices.specs.Rules.{block_size}
 use Rattle.machine_model.specs.State.{State, by_mpu}
 use Rattle.machine_model.specs.Exceptions.{is_thread}
@@ -18,10 +17,6 @@ use Rattle.machine_model.specs.RunningCode.{Context, works}
 use Rattle.monitor_model.specs.declared.tables.InitRecord.{InitRecord}
 use Rattle.monitor_model.specs.Block.{MonitorBlock, Loan}
 use Rattle.monitor_model.specs.Setting.{Setting}
-
--- SVC #n
-abbrev pub svc : ℕ → Instr
-svc n = CallBranch 0 n (pos 0)
 
 -- steps at most: of enter and leave, of lend and unlend, of an emulated access, and of start-up beside the initial words; each
 -- with the exception's entry and its return

@@ -26,10 +26,11 @@ use Rattle.monitor_model.specs.FaultOutcome.{fault_outcome}
 use Rattle.monitor_model.specs.MonitorLaw.{IsMemory, ReturnsBy, Shows, MonitorLaw}
 use Rattle.monitor_model.specs.Handlers.{at_svc, at_memfault, FrameIsOpen}
 use Rattle.monitor_model.specs.Confined.{AreNext, later}
+use Rattle.monitor_model.proofs.Invariants.{runs_unprivileged}
 use Rattle.monitor_confined.specs.Reaches.{ThreadsReach, IsWritten}
 use Rattle.monitor_confined.proofs.EntryWords.{frame, entered_ram}
 use Rattle.monitor_confined.proofs.Changes.{top_below}
-use Rattle.monitor_runs.proofs.Segments.{RunLaws, Segment, Work, Alone, ByCall, ByFault, user}
+use Rattle.monitor_runs.proofs.Segments.{RunLaws, Segment, Work, Alone, ByCall, ByFault}
 use Rattle.monitor_runs.proofs.Inductions.{next_is, next_arrives}
 use Rattle.monitor_runs.specs.Acts.{byte_at, IsOutside, OnStack, IsWritable, MayChange, InSlot, BelowTop}
 use Rattle.monitor_runs.proofs.Bytes.{byte_stays, any_byte}
@@ -53,7 +54,7 @@ module _ (laws : ActLaws) (i : Image) (t : Tables) (p : Placed i t) (stub : ℕ)
   step_written : (m : MonitorBlock) (s : State) → InvariantHolds i t m s → (a : ℕ) → i.ram_base ≤ a → (byte_at i (step i s) a ≡ byte_at i s a) ⊎ IsWritten i t s a
   step_written m s h a low =
       let r = laws.reach i t m s p h in
-      let x = laws.accesses i s (user laws.runs i t p stub law m s h) h.fits.core.sp_aligned in
+      let x = laws.accesses i s (runs_unprivileged h.inv) h.fits.core.sp_aligned in
       ⊎_elim (λ e. inl e)
       (λ f. inr (any_byte (IsWritten i t s) a (turn by_mpu i s).stores
       (each_to (IsReached i s.protection.mpu Write) (λ (y : Touched). (k : ℕ) → k < y.width → IsWritten i t s (y.address + k)) (turn by_mpu i s).stores (λ y z k lt. r.stores (y.address + k) (z.permitted k lt)) x.stores) f))

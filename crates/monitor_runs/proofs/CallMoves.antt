@@ -1,19 +1,19 @@
 -- Behind the handler of SVC: which of the moves its thread has made.
 use Rattle.std.specs.Prelude.{if◌then◌else◌, nat_le}
-use Rattle.std.proofs.Common.{◌≡◌, ℕ, zero, suc, ◌+◌, ◌-◌, ◌*◌, ◌/◌, ◌%◌, ◌^◌, ◌<◌, ◌≤◌, ◌⊎◌, inl, inr, Bool, true, false, ◌&&◌, List, [], ◌∷◌, length, get_or, Option, Some, None, nat_eq, nat_lt, refl, sym, ap, ap₂, ◌∙◌, subst, arith}
+use Rattle.std.proofs.Common.{◌≡◌, ℕ, zero, suc, ◌+◌, ◌-◌, ◌*◌, ◌/◌, ◌%◌, ◌^◌, ◌<◌, ◌≤◌, ◌⊎◌, inl, inr, Bool, true, false, ◌&&◌, List, [], ◌∷◌, length, get_or, Option, Some, None, nat_eq, nat_lt, refl, sym, ap, ◌∙◌, subst, arith}
 use Rattle.std.proofs.lemmas.Bool.Decides.{nat_tests}
 use Rattle.std.specs.Int.{bit_at}
 use Rattle.base_words.specs.Arithmetic.{word as word_of}
 use Rattle.base_words.specs.Bytes.{read, cut, write_all}
 use Rattle.base_words.proofs.Bytes.{cut_small, read_same, read_above, read_above_all}
-use Rattle.base_ranges.specs.Ranges.{AreApart, IsPowerBetween}
-use Rattle.monitor_laws.proofs.Tables.{stack_size}
+use Rattle.base_ranges.specs.Ranges.{AreApart}
+use Rattle.monitor_laws.proofs.Tables.{size_of_stack}
 use Rattle.machine_devices.specs.Rules.{block_size}
 use Rattle.machine_devices.specs.declared.image.Image.{Image}
 use Rattle.machine_bus.specs.Locations.{Location, InRam, InFlash, InWindow, Nowhere, location, choose}
 use Rattle.machine_model.specs.declared.state.CoreRegisters.{CoreRegisters}
 use Rattle.machine_model.specs.State.{State, by_mpu}
-use Rattle.machine_model.specs.Exceptions.{frame_at, has_pad, stacked_status, unstacked, with_pad, is_frame_open, supervisor_call}
+use Rattle.machine_model.specs.Exceptions.{frame_at, has_pad, stacked_status, with_pad, is_frame_open, supervisor_call}
 use Rattle.machine_model.proofs.Frames.{status_tells, sp_back}
 use Rattle.machine_model.proofs.StackWords.{get_or-words_at}
 use Rattle.monitor_model.specs.declared.tables.TargetRecord.{TargetRecord}
@@ -34,7 +34,7 @@ use Rattle.monitor_confined.proofs.Changes.{top_below}
 use Rattle.monitor_confined.proofs.SvcLaw.{svc_change}
 use Rattle.monitor_runs.specs.Moves.{Moves, Enters, Leaves, Lends, Unlends, Waits}
 use Rattle.base_laws.proofs.Multiples.{even_back}
-use Rattle.monitor_runs.proofs.Waiting.{own_pc, above_goes_on, return_pushed}
+use Rattle.monitor_runs.proofs.Waiting.{own_pc, above_goes_on, return_pushed, core_by}
 
 -- a number of eighths that is not 0 has at least 64 bytes
 whole_eighths : (k e : ℕ) → 0 < k * e → 64 ≤ e → 64 ≤ k * e
@@ -51,14 +51,10 @@ module _ (laws : FrameLaws) (i : Image) (t : Tables) (p : Placed i t) (stub : �
   pc_low : s.core.pc + 2 < 2 ^ 32
   pc_low = let low = flash_low i p.rules s.core.pc svc.offset svc.is_in_flash in omega (arith, low)
 
-  -- the core, by the outcome's own parts
-  core_by : (a : ℕ) (r : List ℕ) → a ≡ q → r ≡ after → u.core ≡ unstacked true on.handler a (frame_in i a r)
-  core_by a r e f = on.core ∙ ap₂ (λ (b : ℕ) (x : List ℕ). unstacked true on.handler b (frame_in i b x)) (sym e) (sym f)
-
   -- behind the SVC
   goes_behind : psp ≡ q → memory ≡ after → u.core.pc ≡ s.core.pc + 2
   goes_behind e f =
-      own_pc laws i t p s u m h opened supervisor_call (s.core.pc + 2) s.status pc_low on.handler (core_by psp memory e f) ∙ even_back s.core.pc h.fits.core.pc_even
+      own_pc laws i t p s u m h opened supervisor_call (s.core.pc + 2) s.status pc_low on.handler (core_by on psp memory e f) ∙ even_back s.core.pc h.fits.core.pc_even
 
   leave_move : FrameIsOpen i t m psp → IsSvc i t 1 s → (es : List Saved) → m.saved ≡ es → leave_to i t stub m psp memory es ≡ Resumes n q after → Moves i t s u m n
   leave_move room one [] is e = cc
@@ -68,7 +64,7 @@ module _ (laws : FrameLaws) (i : Image) (t : Tables) (p : Placed i t) (stub : �
       let above = a.0.above in
       let below = room.below_top in
       subst (λ (b : MonitorBlock). Moves i t s u m b) w.0 (Leaves x es is one
-      (above_goes_on laws i t p s u m h opened supervisor_call (s.core.pc + 2) s.status pc_low on.handler x.psp (word i t stub m psp memory 0) (omega (arith, above, below)) (core_by x.psp (with_stacked i x.psp 0 (word i t stub m psp memory 0) memory) w.1 w.2)))
+      (above_goes_on laws i t p s u m h opened supervisor_call (s.core.pc + 2) s.status pc_low on.handler x.psp (word i t stub m psp memory 0) (omega (arith, above, below)) (core_by on x.psp (with_stacked i x.psp 0 (word i t stub m psp memory 0) memory) w.1 w.2)))
 
   lend_move : FrameIsOpen i t m psp → IsSvc i t 2 s → lend i t stub m psp memory ≡ Resumes n q after → Moves i t s u m n
   lend_move room two e =
@@ -139,7 +135,7 @@ module _ (laws : FrameLaws) (i : Image) (t : Tables) (p : Placed i t) (stub : �
   entered_sp none room x =
       let below : m.top ≤ t.stack.base + t.stack.size = top_below t (length m.saved) m.top h.inv.orderly.is_top in
       let ws = callee_words laws i t p stub s u m h opened none room below x.target in
-      let core = core_by (new_top i t stub m psp memory - 32) _ x.lies x.ram in
+      let core = core_by on (new_top i t stub m psp memory - 32) _ x.lies x.ram in
       let status : get_or (frame_in i (new_top i t stub m psp memory - 32) (write_all 4 (new_top i t stub m psp memory - 32 - i.ram_base) (callee_frame i t stub m psp memory x.target) (moved_on i psp memory))) 7 0 ≡ 2 ^ 24 =
       ap (λ (l : List ℕ). get_or l 7 0) ws ∙ cut_small 4 (2 ^ 24) (omega arith) in
       let lo = room.from_base in
@@ -178,8 +174,7 @@ module _ (laws : FrameLaws) (i : Image) (t : Tables) (p : Placed i t) (stub : �
       let high = p.rules.ram_highest in
       let most = p.rules.ram_most in
       let some = x.some in
-      let size_is = stack_size t.stack.size (subst (λ (z : ℕ). IsPowerBetween 9 16 z) (sym p.stack_size) p.stack.size) in
-      let eighths = whole_eighths ((psp - t.stack.base) / eighth t) (eighth t) (omega (arith, some)) size_is.least in
+      let eighths = whole_eighths ((psp - t.stack.base) / eighth t) (eighth t) (omega (arith, some)) (size_of_stack p).least in
       let f = frame laws i p.rules s h.fits opened in
       let is = f.frame.words.is_at in
       let fit = f.frame.words.fits in

@@ -1,5 +1,5 @@
 -- Behind the handler of MemManage: it has made an access that a loan allows.
-use Rattle.std.proofs.Common.{◌≡◌, ℕ, ◌+◌, ◌-◌, ◌*◌, ◌%◌, ◌^◌, ◌<◌, ◌≤◌, inl, inr, Bool, true, false, ◌&&◌, List, length, nat_eq, refl, sym, ap, ap₂, ◌∙◌, subst, arith}
+use Rattle.std.proofs.Common.{◌≡◌, ℕ, ◌+◌, ◌-◌, ◌*◌, ◌%◌, ◌^◌, ◌<◌, ◌≤◌, inl, inr, Bool, true, false, ◌&&◌, List, length, nat_eq, refl, sym, ap, ◌∙◌, subst, arith}
 use Rattle.std.proofs.lemmas.Bool.{eqb-true}
 use Rattle.base_words.specs.Bytes.{read, write}
 use Rattle.base_words.proofs.Bytes.{length-write, read_above}
@@ -8,7 +8,7 @@ use Rattle.machine_devices.specs.declared.image.Image.{Image}
 use Rattle.machine_model.specs.declared.state.FaultStatus.{FaultStatus}
 use Rattle.machine_model.specs.State.{State, by_mpu, low_register}
 use Rattle.machine_model.specs.Code.{HoldsHalf}
-use Rattle.machine_model.specs.Exceptions.{frame_at, unstacked, is_frame_open, mem_manage}
+use Rattle.machine_model.specs.Exceptions.{frame_at, is_frame_open, mem_manage}
 use Rattle.machine_model.specs.Step.{step, turn}
 use Rattle.machine_model.specs.ThreadStep.{ThreadStep}
 use Rattle.monitor_model.specs.declared.tables.Tables.{Tables}
@@ -17,7 +17,7 @@ use Rattle.monitor_model.specs.Placed.{Placed}
 use Rattle.monitor_model.specs.Block.{MonitorBlock}
 use Rattle.monitor_model.specs.Invariant.{InvariantHolds}
 use Rattle.monitor_model.specs.Handlers.{Change, Emulates, IsFault, at_memfault}
-use Rattle.monitor_model.specs.Outcomes.{Outcome, Halts, StopsUnaligned, Resumes, frame_in, with_stacked, moved_on, is_open}
+use Rattle.monitor_model.specs.Outcomes.{Outcome, Halts, StopsUnaligned, Resumes, with_stacked, moved_on, is_open}
 use Rattle.monitor_model.specs.FaultOutcome.{value, address, is_lent, if_aligned, emulated_store, emulated_load, by_half, is_data_fault, fault_outcome}
 use Rattle.monitor_model.specs.MonitorLaw.{GoesOn}
 use Rattle.monitor_confined.proofs.EntryWords.{FrameLaws, flash_low}
@@ -26,7 +26,7 @@ use Rattle.monitor_runs.specs.Moves.{Moves, Stores, Loads, IsLent}
 use Rattle.monitor_runs.proofs.Tests.{either_way, lent_found, lent_from_base}
 use Rattle.monitor_runs.proofs.RefusedStores.{IsStore, OfWord, OfByte, OfHalf, refused_off}
 use Rattle.base_laws.proofs.Multiples.{even_back}
-use Rattle.monitor_runs.proofs.Waiting.{IsOff, moved_pc, second_pushed, store_keeps}
+use Rattle.monitor_runs.proofs.Waiting.{IsOff, moved_pc, second_pushed, store_keeps, core_by}
 
 module _ (laws : FrameLaws) (i : Image) (t : Tables) (p : Placed i t) (s u : State) (m : MonitorBlock) (h : InvariantHolds i t m s) (z : FaultStatus) (fault : IsFault i s z) (opened : is_frame_open by_mpu i s ≡ true)
     (leads : ThreadStep i s (turn by_mpu i s)) (enters : step i s ≡ at_memfault i z s) (n : MonitorBlock) (q : ℕ) (after : List ℕ) (on : GoesOn i t s u m n q after) where
@@ -42,13 +42,10 @@ module _ (laws : FrameLaws) (i : Image) (t : Tables) (p : Placed i t) (s u : Sta
   pc_word : s.core.pc < 2 ^ 32
   pc_word = h.fits.core.pc_word
 
-  core_by : (a : ℕ) (r : List ℕ) → a ≡ q → r ≡ after → u.core ≡ unstacked true on.handler a (frame_in i a r)
-  core_by a r e f = on.core ∙ ap₂ (λ (b : ℕ) (x : List ℕ). unstacked true on.handler b (frame_in i b x)) (sym e) (sym f)
-
   -- behind the instruction
   goes_behind : s.core.pc + 2 < 2 ^ 32 → (changed : List ℕ) → length changed ≡ length memory → read 4 (psp - i.ram_base + 24) changed ≡ read 4 (psp - i.ram_base + 24) memory → psp ≡ q → moved_on i psp changed ≡ after → u.core.pc ≡ s.core.pc + 2
   goes_behind few changed long same e f =
-      moved_pc laws i t p s u m h opened mem_manage s.core.pc z pc_word on.handler changed long same few (core_by psp (moved_on i psp changed) e f) ∙ even_back s.core.pc h.fits.core.pc_even
+      moved_pc laws i t p s u m h opened mem_manage s.core.pc z pc_word on.handler changed long same few (core_by on psp (moved_on i psp changed) e f) ∙ even_back s.core.pc h.fits.core.pc_even
 
   abbrev r1 : ℕ
   r1 = low_register s.core 1

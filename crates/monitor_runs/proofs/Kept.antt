@@ -35,9 +35,10 @@ use Rattle.monitor_model.specs.Handlers.{LoadFor}
 use Rattle.monitor_model.specs.MonitorLaw.{MonitorLaw}
 use Rattle.monitor_model.specs.Starts.{Starts}
 use Rattle.monitor_model.specs.Confined.{StartUp, HasStarted, later}
+use Rattle.monitor_model.proofs.Invariants.{runs_unprivileged}
 use Rattle.monitor_confined.specs.Reaches.{IsRead, Reaches}
 use Rattle.monitor_runs.specs.WhoRuns.{WhoRuns, WhoRunsComesBack}
-use Rattle.monitor_runs.proofs.Segments.{Rest, InThread, Over, Segment, segment, user}
+use Rattle.monitor_runs.proofs.Segments.{Rest, InThread, Over, Segment, segment}
 use Rattle.monitor_runs.proofs.Inductions.{at_add, still, works_in, holds_at as run_holds}
 use Rattle.monitor_runs.specs.Acts.{IsWritable, MayChange, InSlot, BelowTop, InLoan, InResult, MayRead, ReadsSlot, ReadsStack, ReadsFlash, Acts}
 use Rattle.monitor_runs.specs.Stays.{IsClosedTo, MemoryStays, DataStays, DataChangesByItsWriters, OwnDataStays, ClosedStackStays, ActsReadTheirOwn, MonitorReadsForActs, IsOwnAccess, KeepsMemory}
@@ -177,8 +178,8 @@ module _ (laws : ActLaws) (units : AccessLaws) (i : Image) (t : Tables) (p : Pla
     pick P f (x ∷ xs) h (inr a) = pick P f xs h.1 a
 
     by_kind : (b : Bool) → e.write ≡ b → AnyOf There (choose b (turn by_mpu i (at n)).stores (turn by_mpu i (at n)).loads) → Own n e
-    by_kind true q a = pick (IsReached i (at n).protection.mpu Write) stored (turn by_mpu i (at n)).stores (laws.accesses i (at n) (user laws.runs i t p stub law block (at n) inv) inv.fits.core.sp_aligned).stores a
-    by_kind false q a = pick (λ x. IsReached i (at n).protection.mpu Read x ⊎ IsVectorRead i x) (λ x w y. loaded x q w y) (turn by_mpu i (at n)).loads (laws.accesses i (at n) (user laws.runs i t p stub law block (at n) inv) inv.fits.core.sp_aligned).loads a
+    by_kind true q a = pick (IsReached i (at n).protection.mpu Write) stored (turn by_mpu i (at n)).stores (laws.accesses i (at n) (runs_unprivileged inv.inv) inv.fits.core.sp_aligned).stores a
+    by_kind false q a = pick (λ x. IsReached i (at n).protection.mpu Read x ⊎ IsVectorRead i x) (λ x w y. loaded x q w y) (turn by_mpu i (at n)).loads (laws.accesses i (at n) (runs_unprivileged inv.inv) inv.fits.core.sp_aligned).loads a
 
     own : Own n e
     own = by_kind e.write refl (units.events by_mpu i (at n) e told)
@@ -211,7 +212,7 @@ module _ (laws : ActLaws) (units : AccessLaws) (i : Image) (t : Tables) (p : Pla
       each_to (λ x. IsReached i (at n).protection.mpu Read x ⊎ IsVectorRead i x) (AllBytes (MayRead i t (at n))) (turn by_mpu i (at n)).loads
       (λ y z. ⊎_elim (λ q k lt. may_read (at n) (y.address + k) (r.loads closed (y.address + k) (q.permitted k lt)))
       (λ q. ⊎_elim (λ e. vector_read (at n) mem_manage (omega arith) y e) (λ e. vector_read (at n) supervisor_call (omega arith) y e) q) z)
-      (laws.accesses i (at n) (user laws.runs i t p stub law h.0 (at n) h.1) h.1.fits.core.sp_aligned).loads
+      (laws.accesses i (at n) (runs_unprivileged h.1.inv) h.1.fits.core.sp_aligned).loads
 
   -- the monitor's step is one of its work for the act, or the machine has ended in a handler
   monitor_reads_in : i.closed ≡ true → (n k : ℕ) (b : MonitorBlock) (g : Segment laws.runs i t p stub law b (at n)) → n < k → ((j : ℕ) → n < j → j ≤ k → (at j).protection.handler ≡ true)

@@ -1,5 +1,5 @@
 -- From an instruction of a thread over the monitor's work for it to where the thread goes on, or the machine has ended.
-use Rattle.std.proofs.Common.{nat_lt, ◌≡◌, ℕ, zero, suc, ◌<◌, ◌≤◌, true, false, Bool, not, ◌&&◌, List, Option, Some, None, refl, sym, ap, ap₂, ◌∙◌, subst, arith}
+use Rattle.std.proofs.Common.{nat_lt, ◌≡◌, ℕ, zero, suc, ◌<◌, ◌≤◌, true, false, Bool, List, Option, Some, None, refl, sym, ap, ◌∙◌, subst, arith}
 use Rattle.base_words.specs.Runs.{run}
 use Rattle.machine_devices.specs.declared.image.Image.{Image}
 use Rattle.machine_model.specs.declared.state.CoreRegisters.{CoreRegisters}
@@ -7,7 +7,7 @@ use Rattle.machine_model.specs.declared.state.FaultStatus.{FaultStatus}
 use Rattle.machine_model.specs.declared.state.End.{End}
 use Rattle.machine_model.specs.declared.state.End.TheVariants.{Halt, Stop}
 use Rattle.machine_model.specs.declared.state.StopReason.TheVariants.{Bus, Unaligned, Usage}
-use Rattle.machine_model.specs.State.{State, Turn, by_mpu, is_unprivileged}
+use Rattle.machine_model.specs.State.{State, Turn, by_mpu}
 use Rattle.machine_model.specs.Step.{step}
 use Rattle.machine_model.specs.Exceptions.{is_thread, frame_at, is_frame_open}
 use Rattle.machine_model.specs.Shape.{StateFits, StepsKeepShape}
@@ -23,6 +23,7 @@ use Rattle.monitor_model.specs.SvcOutcome.{svc_outcome}
 use Rattle.monitor_model.specs.FaultOutcome.{fault_outcome}
 use Rattle.monitor_model.specs.MonitorLaw.{GoesOn, ReturnsBy, Shows, MonitorLaw, svc_steps, memfault_steps}
 use Rattle.monitor_model.specs.Handlers.{at_svc, at_memfault, HasEndedInHandler, Handles, Leads, Change}
+use Rattle.monitor_model.proofs.Invariants.{runs_unprivileged}
 use Rattle.monitor_confined.specs.ThreadSteps.{LeadsOn, Ends, Goes, Calls, Faults, ThreadStepsLead}
 use Rattle.monitor_confined.specs.WholeRuns.{ChangesKeepOrder}
 use Rattle.monitor_confined.proofs.EntryWords.{FrameLaws}
@@ -121,9 +122,6 @@ module _ (laws : RunLaws) (i : Image) (t : Tables) (p : Placed i t) (stub : ℕ)
 
   -- ---- one step
 
-  pub user : (m : MonitorBlock) (s : State) → InvariantHolds i t m s → is_unprivileged s.protection ≡ true
-  user m s h = ap₂ (λ (a b : Bool). not a && b) h.inv.thread h.inv.unprivileged
-
   one : (m : MonitorBlock) (s : State) → InvariantHolds i t m (step i s) → Segment m s
   unfolding run
   one m s k = record { count = 1; some = omega arith; few = omega arith; works = λ k some lt. absurd (omega (arith, some, lt)); work = Alone refl k; rest = InThread m k (Executes refl) }
@@ -148,7 +146,7 @@ module _ (laws : RunLaws) (i : Image) (t : Tables) (p : Placed i t) (stub : ℕ)
       let l = law.memfault s m z g.0 h live f g.1 frame in
       let end : State = run (step i) l.count from in
       handled m s from h q memfault_steps (λ c le. omega (arith, le)) (fault_outcome i t m (frame_at s.core.sp) from.ram z.cfsr g.0) l
-      (λ n psp after e on. (fault_change i t s end m from.ram z.cfsr g.0 n psp after e, fault_move laws.frames i t p s end m h z f frame (laws.steps i s (user m s h) live) q n psp after on g.0 g.1 e))
+      (λ n psp after e on. (fault_change i t s end m from.ram z.cfsr g.0 n psp after e, fault_move laws.frames i t p s end m h z f frame (laws.steps i s (runs_unprivileged h.inv) live) q n psp after on g.0 g.1 e))
       (λ x. ByFault z g.0 frame q x)
 
   by_ending : (m : MonitorBlock) (s : State) (h : InvariantHolds i t m s) → (o : Option End) → s.ending ≡ o → Segment m s

@@ -1,5 +1,5 @@
 -- A thread's step over another RAM that looks alike.
-use Rattle.std.proofs.Common.{◌≡◌, ℕ, zero, suc, ◌+◌, ◌%◌, ◌<◌, ◌≤◌, inl, inr, Bool, true, false, not, ◌&&◌, List, Option, Some, None, nat_eq, refl, sym, ap, ap₂, ◌∙◌, subst, arith}
+use Rattle.std.proofs.Common.{◌≡◌, ℕ, zero, suc, ◌+◌, ◌%◌, ◌<◌, ◌≤◌, inl, inr, Bool, true, false, ◌&&◌, List, Option, Some, None, nat_eq, refl, sym, ap, ◌∙◌, subst, arith}
 use Rattle.base_words.specs.Arithmetic.{word}
 use Rattle.machine_thumb.specs.declared.table.Instr.{Instr}
 use Rattle.machine_thumb.specs.Decoded.{decoded}
@@ -42,6 +42,7 @@ use Rattle.monitor_model.specs.Placed.{Placed}
 use Rattle.monitor_model.specs.Block.{MonitorBlock}
 use Rattle.monitor_model.specs.Invariant.{InvariantHolds}
 use Rattle.monitor_model.specs.Reach.{AllBytes, LoadKind, OfSlot, OfStack}
+use Rattle.monitor_model.proofs.Invariants.{runs_unprivileged}
 use Rattle.monitor_confined.specs.Reaches.{IsRead, Reaches, ThreadsReach}
 use Rattle.monitor_confined.specs.ThreadSteps.{ThreadStepsAreConfined}
 use Rattle.monitor_runs.specs.Unread.{LooksAlike}
@@ -71,9 +72,6 @@ bad_first Refused m a vs r one more e u = cc
 bad_first (Bad x) m a vs r one more e u = let z : x ≡ r = cc in one x refl (z ∙ u)
 
 module _ (i : Image) (t : Tables) (p : Placed i t) (m : MonitorBlock) (s : State) (h : InvariantHolds i t m s) (reach : Reaches i t s) (closed : i.closed ≡ true) (live : s.ending ≡ None) (other : List ℕ) (alike : LooksAlike i t s other) where
-  user : is_unprivileged s.protection ≡ true
-  user = ap₂ (λ (a b : Bool). not a && b) h.inv.thread h.inv.unprivileged
-
   rules : ObeysRules i
   rules = p.rules
 
@@ -97,7 +95,7 @@ module _ (i : Image) (t : Tables) (p : Placed i t) (m : MonitorBlock) (s : State
   unfolding by_mpu
   word_agrees a v o e k lt =
       let b = verdict_to_bus by_mpu s.protection Read 4 a v in
-      let may : permits s.protection.mpu true Read a ≡ true = subst (λ (u : Bool). permits s.protection.mpu u Read a ≡ true) user b.2 in
+      let may : permits s.protection.mpu true Read a ≡ true = subst (λ (u : Bool). permits s.protection.mpu u Read a ≡ true) (runs_unprivileged h.inv) b.2 in
       let byte : permits s.protection.mpu true Read (a + k) ≡ true = bytes_are_alike s.protection.mpu true Read 4 a k (inr (inr refl)) b.0 lt ∙ may in
       let at = (ram_at i a o e).0 in
       let inside = (ram_at i a o e).1 in
@@ -115,7 +113,7 @@ module _ (i : Image) (t : Tables) (p : Placed i t) (m : MonitorBlock) (s : State
   unfolding verdicts words_from
   words_agree zero a e = tt
   words_agree (suc n) a e =
-      let g = good_first (verdict by_mpu s.protection Read 4 a) (is_memory Read (location i a)) a (verdicts by_mpu i s.protection Read (word (a + 4)) n) (verdict_system by_mpu s.protection Read 4 a user) e in
+      let g = good_first (verdict by_mpu s.protection Read 4 a) (is_memory Read (location i a)) a (verdicts by_mpu i s.protection Read (word (a + 4)) n) (verdict_system by_mpu s.protection Read 4 a (runs_unprivileged h.inv)) e in
       (word_agrees a g.0, words_agree n (word (a + 4)) g.1)
 
   -- ---- a machine that stops for what an instruction loaded
@@ -197,7 +195,7 @@ module _ (i : Image) (t : Tables) (p : Placed i t) (m : MonitorBlock) (s : State
   fetch_agrees : (a : ℕ) → by_mpu s.protection Fetch a ≡ true → Agree i s.ram other (record { width = 2; address = a })
   unfolding by_mpu
   fetch_agrees a e o q k lt =
-      let f = reach.fetches a (subst (λ (u : Bool). permits s.protection.mpu u Fetch a ≡ true) user e) in
+      let f = reach.fetches a (subst (λ (u : Bool). permits s.protection.mpu u Fetch a ≡ true) (runs_unprivileged h.inv) e) in
       let few = rules.flash_most in
       let from = f.0 in
       let to = f.1 in

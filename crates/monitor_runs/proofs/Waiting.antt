@@ -1,5 +1,5 @@
 -- Where a thread goes on behind a handler: what the frames hold that it returns by.
-use Rattle.std.proofs.Common.{◌≡◌, ℕ, ◌+◌, ◌-◌, ◌*◌, ◌/◌, ◌%◌, ◌^◌, ◌<◌, ◌≤◌, ◌⊎◌, ⊎_elim, true, List, length, nat_eq, sym, ap, ◌∙◌, arith}
+use Rattle.std.proofs.Common.{◌≡◌, ℕ, ◌+◌, ◌-◌, ◌*◌, ◌/◌, ◌%◌, ◌^◌, ◌<◌, ◌≤◌, ◌⊎◌, ⊎_elim, true, List, length, nat_eq, sym, ap, ap₂, ◌∙◌, arith}
 use Rattle.base_words.specs.Arithmetic.{word}
 use Rattle.base_words.specs.Bytes.{read, write}
 use Rattle.base_words.proofs.Bytes.{cut_small, read_below, read_above, read_same, read_above_all}
@@ -15,12 +15,17 @@ use Rattle.monitor_model.specs.Placed.{Placed}
 use Rattle.monitor_model.specs.Block.{MonitorBlock}
 use Rattle.monitor_model.specs.Invariant.{InvariantHolds}
 use Rattle.monitor_model.specs.Outcomes.{frame_in, stacked, with_stacked, moved_on}
+use Rattle.monitor_model.specs.MonitorLaw.{GoesOn}
 use Rattle.monitor_confined.proofs.EntryWords.{FrameLaws, frame, frame_offset, entered_ram, entered_length, frame_word}
 use Rattle.monitor_runs.specs.Moves.{GoesOnAt}
 
 -- so many bytes from an address on are none of the 32 at another
 abbrev pub IsOff : (frame address width : ℕ) → Type 0
 IsOff f a w = AreApart a w f 32
+
+-- the core of the thread behind a return, by parts that are the outcome's own
+pub core_by : {i : Image} {t : Tables} {s u : State} {m n : MonitorBlock} {q : ℕ} {after : List ℕ} (on : GoesOn i t s u m n q after) (a : ℕ) (r : List ℕ) → a ≡ q → r ≡ after → u.core ≡ unstacked true on.handler a (frame_in i a r)
+core_by {i} on a r e f = on.core ∙ ap₂ (λ (b : ℕ) (x : List ℕ). unstacked true on.handler b (frame_in i b x)) (sym e) (sym f)
 
 module _ (laws : FrameLaws) (i : Image) (t : Tables) (p : Placed i t) (s u : State) (m : MonitorBlock) (h : InvariantHolds i t m s) (opened : is_frame_open by_mpu i s ≡ true) (n ret : ℕ) (z : FaultStatus) (small : ret < 2 ^ 32) where
   abbrev psp : ℕ

@@ -2,6 +2,7 @@
 use Rattle.std.proofs.Common.{◌≡◌, ℕ, suc, ◌+◌, ◌-◌, ◌*◌, ◌/◌, ◌%◌, ◌^◌, ◌<◌, ◌≤◌, ◌⊎◌, inl, inr, true, List, length, get_or, refl, sym, ap, ap₂, ◌∙◌, subst, arith}
 use Rattle.base_words.specs.declared.conditions.Flags.{Flags}
 use Rattle.base_words.specs.Bytes.{read, write_all}
+use Rattle.machine_thumb.specs.Table.{svc}
 use Rattle.base_ranges.specs.Ranges.{AreApart}
 use Rattle.machine_protection.specs.declared.region.Access.TheVariants.{Fetch}
 use Rattle.machine_devices.specs.declared.image.Image.{Image}
@@ -22,7 +23,7 @@ use Rattle.monitor_model.specs.MonitorLaw.{Shows, MonitorLaw, svc_steps}
 use Rattle.monitor_model.specs.Outcomes.{Outcome, Resumes as OutcomeResumes, stacked, status_place}
 use Rattle.monitor_model.specs.SvcOutcome.{new_loan, svc_outcome}
 use Rattle.monitor_model.specs.Setting.{Setting, setting_of}
-use Rattle.monitor_model.specs.Threads.{svc, lend_steps, HasRoom, AtInstr, Resumes}
+use Rattle.monitor_model.specs.Threads.{lend_steps, HasRoom, AtInstr, Resumes}
 use Rattle.monitor_model.specs.AccessLaw.{StackHasRoom}
 use Rattle.monitor_confined.proofs.EntryWords.{frame, frame_offset, entered_ram}
 use Rattle.monitor_sound.proofs.ThreadLaws.{ThreadLaws}

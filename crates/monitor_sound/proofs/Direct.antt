@@ -35,9 +35,10 @@ use Rattle.monitor_model.specs.Block.{MonitorBlock}
 use Rattle.monitor_model.specs.Invariant.{InvariantHolds, context_of}
 use Rattle.monitor_model.specs.Setting.{has_code}
 use Rattle.monitor_model.specs.AccessLaw.{InStack, StoresTo, LoadsFrom, InReach, WordsInReach, IsInReach}
+use Rattle.monitor_model.proofs.Invariants.{runs_unprivileged}
 use Rattle.monitor_confined.specs.ThreadSteps.{LeadsOn, Ends as LeadsToEnd, Goes as LeadsToThread, Calls as LeadsToSvc, Faults as LeadsToFault}
 use Rattle.monitor_sound.proofs.ThreadLaws.{ThreadLaws, done_at}
-use Rattle.monitor_sound.proofs.Permits.{user, reads_stack, writes_stack, fetches, loads, stores}
+use Rattle.monitor_sound.proofs.Permits.{reads_stack, writes_stack, fetches, loads, stores}
 
 -- ---- what is fetched of an instruction that lies there
 
@@ -234,6 +235,6 @@ module _ (laws : ThreadLaws) (i : Image) (t : Tables) (p : Placed i t) (m : Moni
       let same = same_turn x lies may (act_allowed (act x (s.core.pc + size x) s.core) (act_width x (s.core.pc + size x) s.core) r) in
       let d : DoesAct free i s (act x (s.core.pc + size x) s.core) (turn free i s) = done_at laws.done free i s x live (record { lies = lies; may_fetch = free_fetch s.protection s.core.pc (encode x) }) in (
         same,
-        λ on. by_step (laws.steps i s (user laws.unit i t p m (context_of s) s.ram h.inv) live) (act x (s.core.pc + size x) s.core)
+        λ on. by_step (laws.steps i s (runs_unprivileged h.inv) live) (act x (s.core.pc + size x) s.core)
             (subst (λ (tn : Turn). DoesAct free i s (act x (s.core.pc + size x) s.core) tn) (sym same) d) r on,
       )

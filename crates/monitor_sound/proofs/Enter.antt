@@ -6,6 +6,7 @@ use Rattle.base_words.specs.declared.conditions.Flags.{Flags}
 use Rattle.base_words.specs.Bytes.{read, cut, write_all}
 use Rattle.base_words.specs.Runs.{run}
 use Rattle.base_words.proofs.Bytes.{cut_small}
+use Rattle.machine_thumb.specs.Table.{svc}
 use Rattle.base_ranges.specs.Ranges.{AreApart}
 use Rattle.machine_protection.specs.declared.region.Access.TheVariants.{Fetch}
 use Rattle.machine_devices.specs.declared.image.Image.{Image}
@@ -29,7 +30,7 @@ use Rattle.monitor_model.specs.MonitorLaw.{MonitorLaw, svc_steps}
 use Rattle.monitor_model.specs.Outcomes.{Resumes as OutcomeResumes, frame_in, stacked, moved_on, r12_place, return_place}
 use Rattle.monitor_model.specs.SvcOutcome.{word, callee_frame, new_top, enter_at, svc_outcome}
 use Rattle.monitor_model.specs.Setting.{Setting, setting_of, leads_to, has_target}
-use Rattle.monitor_model.specs.Threads.{svc, call_steps, KeepsOff, AtInstr, Enters}
+use Rattle.monitor_model.specs.Threads.{call_steps, KeepsOff, AtInstr, Enters}
 use Rattle.monitor_confined.proofs.EnterLaw.{both, enter_change, callee_words, entry_low, rounded_below, IsFound, found_in}
 use Rattle.monitor_confined.proofs.EntryWords.{entered_length, frame, frame_offset}
 use Rattle.monitor_sound.specs.Accesses.{StubStands}

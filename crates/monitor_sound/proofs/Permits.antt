@@ -14,7 +14,7 @@ use Rattle.machine_protection.specs.Protection.{permits, is_on, deciding, or_thi
 use Rattle.machine_protection.specs.Configured.{NoneOf, IsLast, closed_from}
 use Rattle.machine_devices.specs.declared.image.Image.{Image}
 use Rattle.machine_bus.specs.Locations.{choose, inside}
-use Rattle.machine_model.specs.State.{by_mpu, is_unprivileged}
+use Rattle.machine_model.specs.State.{by_mpu}
 use Rattle.base_laws.specs.Lists.{Each}
 use Rattle.machine_model.specs.RunningCode.{Context}
 use Rattle.monitor_model.specs.declared.tables.CompRecord.{CompRecord}
@@ -33,6 +33,7 @@ use Rattle.machine_bus.proofs.Ranges.{inside_true as inside_is}
 use Rattle.base_laws.proofs.Lists.{each_at}
 use Rattle.base_laws.proofs.Tests.{is_false}
 use Rattle.monitor_model.proofs.Multiples.{divides}
+use Rattle.monitor_model.proofs.Invariants.{runs_unprivileged}
 use Rattle.machine_protection.proofs.Configured.{closed_byte}
 
 -- ---- which of a list of regions is the last that holds an address
@@ -175,14 +176,11 @@ module _ (laws : UnitLaws) (i : Image) (t : Tables) (p : Placed i t) where
     placed : IsCompartment i t here
     placed = each_at (IsCompartment i t) t.comps nobody m.current p.comps v.orderly.current_in
 
-    pub user : is_unprivileged x.protection ≡ true
-    user = ap₂ (λ (a b : Bool). not a && b) v.thread v.unprivileged
-
     permitted : (kind : Access) (a : ℕ) (g : Region) → IsLast all a g → allows g true kind ≡ true → by_mpu x.protection kind a ≡ true
     unfolding by_mpu
     permitted kind a g l e =
         let on : is_on x.protection.mpu ≡ true = ap (λ (n : ℕ). nat_eq (n % 2) 1) v.control in
-        subst (λ (u : Bool). permits x.protection.mpu u kind a ≡ true) (sym user) ((laws.permit all x.protection.mpu kind a on v.regions).1 (g, l, e))
+        subst (λ (u : Bool). permits x.protection.mpu u kind a ≡ true) (sym (runs_unprivileged v)) ((laws.permit all x.protection.mpu kind a on v.regions).1 (g, l, e))
 
     pub top_inside : m.top ≤ t.stack.base + t.stack.size
     top_inside = top_below t (length m.saved) m.top v.orderly.is_top

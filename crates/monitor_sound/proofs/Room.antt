@@ -4,7 +4,7 @@ use Rattle.std.proofs.lemmas.Bool.Decides.{nat_tests}
 use Rattle.base_words.specs.Arithmetic.{word}
 use Rattle.base_words.specs.Bytes.{cut}
 use Rattle.base_words.proofs.Bytes.{cut_small}
-use Rattle.machine_thumb.specs.Table.{encode}
+use Rattle.machine_thumb.specs.Table.{encode, svc}
 use Rattle.machine_protection.specs.declared.region.Access.TheVariants.{Read, Write, Fetch}
 use Rattle.machine_protection.specs.declared.region.Access.{Access}
 use Rattle.machine_devices.specs.declared.image.Image.{Image}
@@ -31,7 +31,6 @@ use Rattle.monitor_model.specs.Confined.{IsSvc}
 use Rattle.monitor_model.specs.Invariant.{InvariantHolds, context_of}
 use Rattle.monitor_model.specs.AccessLaw.{StackHasRoom}
 use Rattle.monitor_model.specs.Outcomes.{stacked}
-use Rattle.monitor_model.specs.Threads.{svc}
 use Rattle.monitor_confined.proofs.EntryWords.{frame_word}
 use Rattle.monitor_sound.proofs.ThreadLaws.{ThreadLaws, performed_at}
 use Rattle.monitor_sound.proofs.Permits.{writes_stack, top_inside}

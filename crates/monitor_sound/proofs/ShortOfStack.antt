@@ -2,6 +2,7 @@
 use Rattle.std.proofs.Common.{◌≡◌, ℕ, suc, ◌+◌, ◌-◌, ◌*◌, ◌/◌, ◌≤◌, true, List, length, get_or, Some, refl, sym, ap, ◌∙◌, subst, arith}
 use Rattle.base_words.specs.declared.conditions.Flags.{Flags}
 use Rattle.base_words.specs.Runs.{run}
+use Rattle.machine_thumb.specs.Table.{svc}
 use Rattle.machine_protection.specs.declared.region.Access.TheVariants.{Fetch}
 use Rattle.machine_devices.specs.declared.image.Image.{Image}
 use Rattle.machine_bus.specs.Locations.{InFlash, location}
@@ -22,7 +23,7 @@ use Rattle.monitor_model.specs.MonitorLaw.{Shows, MonitorLaw, svc_steps}
 use Rattle.monitor_model.specs.Outcomes.{Outcome, Halts, r12_place, return_place}
 use Rattle.monitor_model.specs.SvcOutcome.{word, svc_outcome}
 use Rattle.monitor_model.specs.Setting.{Setting, setting_of}
-use Rattle.monitor_model.specs.Threads.{svc, call_steps, lend_steps, AtInstr}
+use Rattle.monitor_model.specs.Threads.{call_steps, lend_steps, AtInstr}
 use Rattle.monitor_sound.specs.Accesses.{StubStands}
 use Rattle.monitor_sound.specs.HaltingCalls.{HaltsBy, PlacedCallsRunShort}
 use Rattle.monitor_sound.proofs.ThreadLaws.{ThreadLaws}

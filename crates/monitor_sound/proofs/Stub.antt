@@ -1,8 +1,7 @@
 -- The leave stub of a sound image stands in flash, in the tables' block.
-use Rattle.std.proofs.Common.{◌≡◌, ℕ, pos, ◌+◌, ◌-◌, ◌≤◌, List, ◌++◌, length, get_or, replicate, refl, sym, ap, ap₂, ◌∙◌, subst, arith, length-append, append_assoc}
-use Rattle.std.specs.Int.Signed.{le_z_yes, lt_z_yes}
-use Rattle.machine_thumb.specs.Table.{IsOffset}
-use Rattle.machine_thumb.specs.Bytes.{code_bytes, EachInTable}
+use Rattle.std.proofs.Common.{◌≡◌, ℕ, ◌+◌, ◌-◌, ◌≤◌, List, ◌++◌, length, get_or, replicate, sym, ap, ap₂, ◌∙◌, subst, arith, length-append, append_assoc}
+use Rattle.machine_thumb.specs.Table as table
+use Rattle.machine_thumb.specs.Bytes.{code_bytes}
 use Rattle.machine_thumb.proofs.Codes.{code_bytes-append}
 use Rattle.machine_devices.specs.declared.image.Image.{Image}
 use Rattle.machine_devices.specs.Rules.{ObeysRules}
@@ -21,16 +20,10 @@ use Rattle.monitor_model.specs.Placed.{Placed}
 use Rattle.monitor_program.specs.Reset.{reset}
 use Rattle.monitor_program.specs.Svc.{svc}
 use Rattle.monitor_program.specs.TheCode.{monitor_code}
-use Rattle.monitor_model.specs.Threads as threads
+use Rattle.monitor_program.proofs.Fields.{stub_in}
 use Rattle.monitor_sound.specs.Accesses.{StubStands}
 use Rattle.monitor_sound.proofs.Audited.{Audited}
 use Rattle.monitor_laws.proofs.PageCode.{middle}
-
-no_offset : IsOffset 2048 (pos 0)
-no_offset = record { from = le_z_yes tt; below = lt_z_yes tt; even = refl }
-
-stub_in : EachInTable leave_stub
-stub_in = ((omega arith, omega arith, no_offset, λ e. refl, λ e. absurd (omega (arith, e))), tt)
 
 -- lists joined in another order
 four_joined : (f a b c s g r : List ℕ) → ((f ++ (a ++ (b ++ (c ++ s)))) ++ g) ++ r ≡ (f ++ (a ++ (b ++ c))) ++ (s ++ (g ++ r))
@@ -91,7 +84,7 @@ module _ (i : Image) (t : Tables) (rules : ObeysRules i) (rest : List ℕ) (has 
           let o = before_length in
           omega (arith, a, b, l, o)
 
-  pub stub_lies : BytesAreCode → Lies i (i.flash_base + stub_offset k) (threads.svc 1)
+  pub stub_lies : BytesAreCode → Lies i (i.flash_base + stub_offset k) (table.svc 1)
   stub_lies law = (law i (stub_offset k) leave_stub rules stub_in holds_stub).0
 
 page_room : (t : Tables) → area_end t ≤ t.base + tables_size t → 4096 ≤ tables_size t
@@ -107,5 +100,5 @@ stub_stands law fits there i t rules p a =
     record {
       from_base = omega arith;
       inside = omega (arith, z, b, big);
-      lies = subst (λ (n : ℕ). Lies i n (threads.svc 1)) at (stub_lies i t rules a.behind a.has_page law);
+      lies = subst (λ (n : ℕ). Lies i n (table.svc 1)) at (stub_lies i t rules a.behind a.has_page law);
     }

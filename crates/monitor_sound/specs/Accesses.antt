@@ -1,6 +1,7 @@
 -- Beyond the program's claim: only laws, proofs and functions inside the tool cite this file.
 -- The access law of placed tables.
 use Rattle.std.specs.Prelude.{ℕ, ◌+◌, ◌≤◌}
+use Rattle.machine_thumb.specs.Table.{svc}
 use Rattle.machine_devices.specs.declared.image.Image.{Image}
 use Rattle.machine_model.specs.Code.{Lies}
 use Rattle.monitor_model.specs.declared.tables.Tables.{Tables}
@@ -8,7 +9,6 @@ use Rattle.monitor_model.specs.Layout.{tables_size}
 use Rattle.monitor_model.specs.Placed.{Placed}
 use Rattle.monitor_model.specs.MonitorLaw.{MonitorLaw}
 use Rattle.monitor_model.specs.AccessLaw.{AccessLaw}
-use Rattle.monitor_model.specs.Threads.{svc}
 
 -- the leave stub stands in the tables' block
 pub record StubStands (i : Image) (t : Tables) (stub : ℕ) : Type 0 where

@@ -3,6 +3,7 @@
 use Rattle.std.specs.Prelude.{◌≡◌, ℕ, ◌+◌, ◌-◌, ◌/◌, ◌≤◌, List, [], length, true, Some}
 use Rattle.std.proofs.Math.ListN.{get_or}
 use Rattle.base_words.specs.declared.conditions.Flags.{Flags}
+use Rattle.machine_thumb.specs.Table.{svc}
 use Rattle.machine_devices.specs.declared.image.Image.{Image}
 use Rattle.machine_model.specs.declared.state.End.TheVariants.{Halt}
 use Rattle.machine_model.specs.State.{State, by_mpu}
@@ -15,7 +16,7 @@ use Rattle.monitor_model.specs.Invariant.{Invariant}
 use Rattle.monitor_model.specs.MonitorCode.{MonitorCode}
 use Rattle.monitor_model.specs.MonitorLaw.{MonitorLaw}
 use Rattle.monitor_model.specs.Setting.{Setting, setting_of}
-use Rattle.monitor_model.specs.Threads.{svc, call_steps, lend_steps, base, AtInstr}
+use Rattle.monitor_model.specs.Threads.{call_steps, lend_steps, base, AtInstr}
 use Rattle.monitor_sound.specs.Accesses.{StubStands}
 
 -- so many steps at most, without an event, lead to this halt

@@ -4,7 +4,7 @@ use Rattle.std.proofs.lemmas.Int.{ints}
 use Rattle.std.proofs.lemmas.Bool.{cases_lt, ltb-true, and_parts as both, not-true}
 use Rattle.std.proofs.lemmas.List.{set-set}
 use Rattle.std.proofs.lemmas.Bool.Decides.{nat_tests}
-use Rattle.std.specs.Prelude.{bit_and, bit_or}
+use Rattle.std.specs.Prelude.{bit_and, bit_or, if◌then◌else◌}
 use Rattle.base_words.specs.declared.memory.Width.{Width}
 use Rattle.base_words.specs.declared.memory.Width.TheVariants.{Byte, Half, Word}
 use Rattle.base_words.specs.Width.{byte_count}
@@ -61,10 +61,6 @@ forward a n h = omega (arith, ints)
 
 backward : (a n b : ℕ) → a < 2 ^ 31 → b + suc n ≡ a → moved a (negsuc n) ≡ b
 backward a n b h e = omega (arith, ints)
-
-abbrev pub if_taken : Bool → ℕ → ℕ → ℕ
-if_taken true a b = a
-if_taken false a b = b
 
 set_here : (xs : List ℕ) (k : ℕ) → set xs k (get_or xs k 0) ≡ xs
 set_here [] k = refl
@@ -481,7 +477,7 @@ module _ (j : PermissionTest) (i : Image) (lr : ℕ) (queues : List (List ℕ)) 
         let e : low_register c a + (2 ^ 32 - 1 - 1) + 1 ≡ low_register c a + (2 ^ 32 - 1) = omega arith in
         changes pc x c (DataImmediate 3 a 1) (registers (pc + 2) (record x { flags = compare_flags (low_register c a) 1 }) (with_one_less a c)) st g f (rw e refl)
 
-    branch_if : (pc : ℕ) (x : Scratch) (c : Core) (k : ℕ) (b : Bool) → holds k x.flags ≡ b → pc + 8 < 2 ^ 31 → StandsWhileGood pc (BranchConditional k (pos 2)) → Good c.protection → Fits (at pc x c) → Next (at pc x c) (at (if_taken b (pc + 2 + 4) (pc + 2)) x c)
+    branch_if : (pc : ℕ) (x : Scratch) (c : Core) (k : ℕ) (b : Bool) → holds k x.flags ≡ b → pc + 8 < 2 ^ 31 → StandsWhileGood pc (BranchConditional k (pos 2)) → Good c.protection → Fits (at pc x c) → Next (at pc x c) (at (if b then pc + 2 + 4 else pc + 2) x c)
     unfolding act
     branch_if pc x c k true e h st g f =
         let z : moved (pc + 2 + 2) (pos 2) ≡ pc + 2 + 4 = forward (pc + 2 + 2) 2 (omega arith) ∙ omega arith in

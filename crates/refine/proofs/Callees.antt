@@ -6,6 +6,7 @@ use Rattle.std.proofs.lemmas.List.{get_or-set_same, length-set, length-map}
 use Rattle.base_laws.specs.Lists.{EachBelow}
 use Rattle.base_words.specs.Bytes.{read, cut}
 use Rattle.base_words.specs.declared.conditions.Flags.{Flags}
+use Rattle.machine_thumb.specs.Table.{svc}
 use Rattle.machine_model.specs.State.{State, by_mpu}
 use Rattle.machine_model.specs.Code.{HoldsHalf, Stands, Runs}
 use Rattle.machine_model.specs.Shape.{StateFits}
@@ -18,7 +19,7 @@ use Rattle.code_model.specs.Templates.{lends_of, inst_items}
 use Rattle.code_model.specs.Places.{entry_address}
 use Rattle.monitor_model.specs.Block.{MonitorBlock, entered}
 use Rattle.monitor_model.specs.Setting.{Setting}
-use Rattle.monitor_model.specs.Threads.{svc, base, lend_steps, HasRoom, AtInstr, Enters}
+use Rattle.monitor_model.specs.Threads.{base, lend_steps, HasRoom, AtInstr, Enters}
 use Rattle.monitor_model.specs.Law.{Law}
 use Rattle.code_effects.specs.Points.{Point, known, with_r12, Arrives}
 use Rattle.code_effects.proofs.Registers.{holds_nothing, known_holds}

@@ -1,11 +1,12 @@
 -- The guard below the stack is refused to threads.
-use Rattle.std.proofs.Common.{◌≡◌, ℕ, ◌+◌, ◌-◌, ◌/◌, ◌%◌, ◌^◌, ◌<◌, ◌≤◌, Bool, true, false, not, ◌&&◌, List, length, nat_eq, refl, ap, ap₂, ◌∙◌, subst, arith, ⊎_elim}
+use Rattle.std.proofs.Common.{◌≡◌, ℕ, ◌+◌, ◌-◌, ◌/◌, ◌%◌, ◌^◌, ◌<◌, ◌≤◌, Bool, true, false, List, length, nat_eq, refl, ap, ◌∙◌, subst, arith, ⊎_elim}
 use Rattle.machine_protection.specs.declared.region.Access.TheVariants.{Write}
 use Rattle.machine_protection.specs.Protection.{permits}
 use Rattle.machine_model.specs.State.{by_mpu, is_unprivileged}
 use Rattle.machine_model.specs.RunningCode.{Context}
 use Rattle.monitor_model.specs.Block.{MonitorBlock}
 use Rattle.monitor_model.specs.Invariant.{Invariant}
+use Rattle.monitor_model.proofs.Invariants.{runs_unprivileged}
 use Rattle.monitor_confined.specs.Reaches.{ThreadsReach}
 use Rattle.monitor_confined.proofs.Reaches.{UnitLaws, stack_some, current_word, writes}
 use Rattle.monitor_sound.specs.HaltingCalls.{PlacedCallsRunShort}
@@ -16,15 +17,12 @@ pub guards_refuse : ThreadsReach → GuardsRefuse
 unfolding by_mpu
 guards_refuse reach i t m s a p guarded h below near = by (permits s.protection.mpu true Write a) refl
   where
-    user : is_unprivileged s.protection ≡ true
-    user = ap₂ (λ (a b : Bool). not a && b) h.inv.thread h.inv.unprivileged
-
     none : permits s.protection.mpu true Write a ≡ true → ⊥
     none e = ⊎_elim (λ slot. guarded _ a (current_word i t m s h) below near slot) (λ o. let lo = o.0 in absurd (omega (arith, lo, below))) ((reach i t m s p h).stores a e)
 
     by : (b : Bool) → permits s.protection.mpu true Write a ≡ b → permits s.protection.mpu (is_unprivileged s.protection) Write a ≡ false
     by true e = absurd (none e)
-    by false e = ap (λ (u : Bool). permits s.protection.mpu u Write a) user ∙ e
+    by false e = ap (λ (u : Bool). permits s.protection.mpu u Write a) (runs_unprivileged h.inv) ∙ e
 
 pub guards_serve : UnitLaws → PlacedCallsRunShort → GuardsServe
 unfolding by_mpu
@@ -47,9 +45,6 @@ guards_serve unit short code i t p stands law guarded = record {
     refuse : (m : MonitorBlock) (x : Context) (ram : List ℕ) (a : ℕ) → Invariant i t m x ram → a < t.stack.base → t.stack.base ≤ a + guard_bytes → by_mpu x.protection Write a ≡ false
     refuse m x ram a h below near = by (permits x.protection.mpu true Write a) refl
       where
-        user : is_unprivileged x.protection ≡ true
-        user = ap₂ (λ (a b : Bool). not a && b) h.thread h.unprivileged
-
         by : (b : Bool) → permits x.protection.mpu true Write a ≡ b → permits x.protection.mpu (is_unprivileged x.protection) Write a ≡ false
         by true e = absurd (none m x ram a h below near e)
-        by false e = ap (λ (u : Bool). permits x.protection.mpu u Write a) user ∙ e
+        by false e = ap (λ (u : Bool). permits x.protection.mpu u Write a) (runs_unprivileged h) ∙ e

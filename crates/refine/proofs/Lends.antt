@@ -2,6 +2,7 @@
 use Rattle.std.proofs.Common.{◌≡◌, ℕ, suc, ◌+◌, ◌-◌, ◌*◌, ◌%◌, ◌^◌, ◌<◌, ◌≤◌, ◌⊎◌, true, List, [], ◌∷◌, length, get_or, Option, refl, sym, ap, ◌∙◌, subst, arith, inl, inr, ⊎_elim}
 use Rattle.std.proofs.lemmas.Bool.{cases_lt}
 use Rattle.base_words.specs.declared.conditions.Flags.{Flags}
+use Rattle.machine_thumb.specs.Table.{svc}
 use Rattle.machine_model.specs.declared.state.End.TheVariants.{Halt}
 use Rattle.machine_model.specs.State.{State, by_mpu}
 use Rattle.machine_model.specs.Code.{Lies, Stands, Runs}
@@ -17,7 +18,7 @@ use Rattle.code_model.specs.Sizes.{entry_size}
 use Rattle.code_model.specs.Templates.{lends_of, entry_items}
 use Rattle.monitor_model.specs.Block.{MonitorBlock, lent}
 use Rattle.monitor_model.specs.Setting.{Setting}
-use Rattle.monitor_model.specs.Threads.{svc, lend_steps, base, Stays, AtInstr}
+use Rattle.monitor_model.specs.Threads.{lend_steps, base, Stays, AtInstr}
 use Rattle.monitor_model.specs.Law.{Law}
 use Rattle.code_effects.specs.Points.{Point}
 use Rattle.code_effects.specs.Entry.{no_lend}

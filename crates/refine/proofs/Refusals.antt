@@ -4,6 +4,7 @@ use Rattle.std.proofs.lemmas.Bool.Decides.{nat_tests}
 use Rattle.base_words.specs.declared.conditions.Flags.{Flags}
 use Rattle.base_words.specs.Arithmetic.{word}
 use Rattle.machine_thumb.specs.declared.table.Instr.TheVariants.{StackRelative, PushPop, TransferImmediate}
+use Rattle.machine_thumb.specs.Table.{svc}
 use Rattle.machine_protection.specs.declared.region.Access.{Access}
 use Rattle.machine_protection.specs.declared.region.Access.TheVariants.{Read, Write}
 use Rattle.machine_devices.specs.declared.image.Image.{Image}
@@ -22,7 +23,6 @@ use Rattle.machine_model.specs.Perform.{perform}
 use Rattle.machine_model.specs.Code.{Stands, StepsQuietly}
 use Rattle.machine_model.specs.RunningCode.{Context, body, works, IsLoad, IsStore}
 use Rattle.machine_model.proofs.Exec.{stepped}
-use Rattle.monitor_model.specs.Threads.{svc}
 use Rattle.monitor_sound.proofs.Room.{low_address}
 
 -- a frame whose first word is refused

@@ -8,6 +8,7 @@ use Rattle.base_words.specs.declared.conditions.Flags.{Flags}
 use Rattle.base_words.specs.Flags.{result_flags}
 use Rattle.machine_thumb.specs.declared.table.Instr.{Instr}
 use Rattle.machine_thumb.specs.declared.table.Instr.TheVariants.{TransferImmediate}
+use Rattle.machine_thumb.specs.Table.{svc}
 use Rattle.machine_protection.specs.declared.region.Access.TheVariants.{Read, Write}
 use Rattle.machine_devices.specs.declared.image.Image.{Image}
 use Rattle.machine_model.specs.declared.state.End.TheVariants.{Stop}
@@ -33,7 +34,7 @@ use Rattle.code_effects.proofs.Items.{plain_code}
 use Rattle.code_effects.proofs.Entry.{frame_by}
 use Rattle.monitor_model.specs.Block.{MonitorBlock}
 use Rattle.monitor_model.specs.Setting.{Setting}
-use Rattle.monitor_model.specs.Threads.{svc, base}
+use Rattle.monitor_model.specs.Threads.{base}
 use Rattle.monitor_model.specs.Law.{Law}
 use Rattle.refine.specs.CodeLaws.{CodeLaws}
 use Rattle.refine.specs.Owned.{Owns, MemoryRules}

@@ -6,7 +6,7 @@ use Rattle.base_words.specs.declared.conditions.Flags.{Flags}
 use Rattle.machine_thumb.specs.declared.table.Code.{Code}
 use Rattle.machine_thumb.specs.declared.table.Code.TheVariants as code
 use Rattle.machine_thumb.specs.declared.table.Instr.{Instr}
-use Rattle.machine_thumb.specs.Table.{encode}
+use Rattle.machine_thumb.specs.Table.{encode, svc}
 use Rattle.machine_thumb_asm.specs.declared.item.Item.{Item}
 use Rattle.machine_thumb_asm.specs.declared.item.Item.TheVariants.{Plain, Branch, Half, Word}
 use Rattle.machine_thumb_asm.specs.Assembly.{branch_size, place_of}
@@ -22,7 +22,7 @@ use Rattle.machine_model.specs.Stack.{Room}
 use Rattle.machine_model.specs.RunningCode.{Context, works}
 use Rattle.monitor_model.specs.Block.{MonitorBlock}
 use Rattle.monitor_model.specs.Setting.{Setting}
-use Rattle.monitor_model.specs.Threads.{svc, Stays, KeepsOff, base, stack_end}
+use Rattle.monitor_model.specs.Threads.{Stays, KeepsOff, base, stack_end}
 use Rattle.monitor_model.specs.Law.{Law}
 use Rattle.code_effects.specs.Items.{ItemsAt}
 use Rattle.refine.specs.Areas.{Area, Has}

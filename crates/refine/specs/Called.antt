@@ -4,6 +4,7 @@
 use Rattle.std.specs.Prelude.{◌≡◌, ℕ, ◌+◌, ◌-◌, ◌*◌, ◌/◌, ◌%◌, ◌<◌, ◌≤◌, ◌⊎◌, List, [], length, true, Option}
 use Rattle.std.proofs.Math.ListN.{get_or}
 use Rattle.base_words.specs.Bytes.{cut}
+use Rattle.machine_thumb.specs.Table.{svc}
 use Rattle.machine_devices.specs.declared.image.Image.{Image}
 use Rattle.machine_model.specs.State.{State, by_mpu}
 use Rattle.machine_model.specs.Code.{HoldsHalf, Stands}
@@ -21,7 +22,7 @@ use Rattle.monitor_model.specs.Block.{MonitorBlock, entered}
 use Rattle.monitor_model.specs.Invariant.{Invariant}
 use Rattle.monitor_model.specs.MonitorCode.{MonitorCode}
 use Rattle.monitor_model.specs.Setting.{Setting, setting_of}
-use Rattle.monitor_model.specs.Threads.{svc, base}
+use Rattle.monitor_model.specs.Threads.{base}
 use Rattle.monitor_model.specs.Law.{Law}
 use Rattle.refine.specs.CodeLaws.{CodeLaws}
 use Rattle.refine.specs.Owned.{Owns, MemoryRules, Lendable, all_lent}

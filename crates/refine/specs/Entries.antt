@@ -2,6 +2,7 @@
 -- Entries of functions and of exceptions for which the stack has no room.
 use Rattle.std.specs.Prelude.{◌≡◌, ℕ, ◌+◌, ◌*◌, ◌%◌, ◌<◌, ◌≤◌, ◌⊎◌, List, [], Option, Some}
 use Rattle.base_words.specs.declared.conditions.Flags.{Flags}
+use Rattle.machine_thumb.specs.Table.{svc}
 use Rattle.machine_model.specs.declared.state.End.{End}
 use Rattle.machine_model.specs.State.{State, by_mpu}
 use Rattle.machine_model.specs.Code.{Runs, Stands}
@@ -18,7 +19,7 @@ use Rattle.monitor_model.specs.declared.tables.Tables.{Tables}
 use Rattle.monitor_model.specs.Invariant.{Invariant}
 use Rattle.monitor_model.specs.MonitorCode.{MonitorCode}
 use Rattle.monitor_model.specs.Setting.{Setting, setting_of}
-use Rattle.monitor_model.specs.Threads.{svc, base}
+use Rattle.monitor_model.specs.Threads.{base}
 use Rattle.monitor_model.specs.Law.{Law}
 use Rattle.refine.specs.CodeLaws.{CodeLaws}
 use Rattle.refine.specs.Owned.{Owns, MemoryRules}

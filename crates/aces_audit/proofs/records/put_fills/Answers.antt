@@ -1,7 +1,7 @@
 use Rattle.std.proofs.Common.{◌<◌, ◌++◌, length, take, get_or, refl, ap, subst, ◌∙◌}
 use Rattle.plan_report.proofs.Growing.{item_more, put_each}
 use Rattle.aces_audit.specs.TableLines.{fill_line}
-use Rattle.aces_audit.proofs.Beyond.{no_init}
+use Rattle.monitor_model.proofs.Beyond.{no_init}
 use Rattle.aces_audit.proofs.records.put_fills.Goals as goal
 
 pub loop-i-preserved : goal.loop-i-preserved

@@ -1,7 +1,7 @@
 use Rattle.std.proofs.Common.{take, get_or, refl}
 use Rattle.plan_report.proofs.Growing.{item_more, put_each}
 use Rattle.aces_audit.specs.TableLines.{target_text}
-use Rattle.aces_audit.proofs.Beyond.{no_target}
+use Rattle.monitor_model.proofs.Beyond.{no_target}
 use Rattle.aces_audit.proofs.records.put_targets.Goals as goal
 
 pub loop-i-preserved : goal.loop-i-preserved

@@ -1,6 +1,6 @@
 use Rattle.std.proofs.Common.{◌+◌, ◌∙◌, List, [], ◌∷◌, map, drop, get_or, arith}
 use Rattle.machine_thumb.specs.declared.table.Instr.{Instr}
-use Rattle.code_model.specs.Words.{supervisor_call}
+use Rattle.machine_thumb.specs.Table.{svc}
 use Rattle.code_lower.specs.declared.subject.Lent.{Lent}
 use Rattle.code_model.specs.Entry.{unlend_code}
 use Rattle.code_lower.specs.Subjects.{lend_of}
@@ -13,7 +13,7 @@ put-requires-clause-room c =
     let ls = c.args.lent.now in
     let i = c.loop-lend._lend-index in
     let d : Lent = get_or ls i (record { home = 0; number = 0 }) in
-    rw c.supervisor_call.ensures.code (step_first (unlend_code (map lend_of (drop i ls))) (supervisor_call 3 ∷ []) (unlend_code (map lend_of (drop (i + 1) ls))) (unlends_next ls i d (omega arith)) c.loop-lend.asm c.loop-lend.invariant.room)
+    rw c.supervisor_call.ensures.code (step_first (unlend_code (map lend_of (drop i ls))) (svc 3 ∷ []) (unlend_code (map lend_of (drop (i + 1) ls))) (unlends_next ls i d (omega arith)) c.loop-lend.asm c.loop-lend.invariant.room)
 
 pub loop-lend-preserved : goal.loop-lend-preserved
 loop-lend-preserved c =
@@ -24,6 +24,6 @@ loop-lend-preserved c =
     let rest : List Instr = unlend_code (map lend_of (drop (i + 1) ls)) in
     rw (c.in_ok-put.ensures, c.supervisor_call.ensures.code)
     record {
-      whole = step_whole code (supervisor_call 3 ∷ []) rest (unlends_next ls i d (omega arith)) c.loop-lend.asm ∙ c.loop-lend.invariant.whole;
-      room = step_rest code (supervisor_call 3 ∷ []) rest (unlends_next ls i d (omega arith)) c.loop-lend.asm c.loop-lend.invariant.room;
+      whole = step_whole code (svc 3 ∷ []) rest (unlends_next ls i d (omega arith)) c.loop-lend.asm ∙ c.loop-lend.invariant.whole;
+      room = step_rest code (svc 3 ∷ []) rest (unlends_next ls i d (omega arith)) c.loop-lend.asm c.loop-lend.invariant.room;
     }
