@@ -1,6 +1,5 @@
 -- All of the monitor's code has an encoding, and each byte of its page is a byte.
 use Rattle.std.proofs.Common.{ℕ, ◌+◌, ◌-◌, ◌^◌, ◌<◌, ◌≤◌, ◌++◌, length, replicate, arith}
-use Rattle.std.proofs.lemmas.Nat.{trailing_le}
 use Rattle.base_laws.specs.Lists.{EachBelow}
 use Rattle.base_words.specs.Bytes.{AreBytes}
 use Rattle.machine_thumb.specs.Bytes.{code_bytes, EachInTable}
