@@ -22,9 +22,9 @@ use Rattle.image_promises.specs.Planned.{planned_tables, planned_image}
 use Rattle.plan.specs.PlannedFirmwares.{plan}
 use Rattle.image_promises.specs.Laws.{FlashReadsBack}
 use Rattle.image_promises.proofs.PlannedPremises.{PlannedPremises, planned_of}
-use Rattle.image_promises.proofs.Facts.{laid, length_is, flash_least, stack_in, monitor_in}
+use Rattle.image_promises.proofs.Facts.{length_is, flash_least, stack_in, monitor_in}
 use Rattle.plan_model.proofs.KeptLimits.{few}
-use Rattle.image_promises.proofs.ReadBack.{ReadLaws}
+use Rattle.image_promises.proofs.ReadBack.{ReadLaws, tables_at_base}
 use Rattle.image_promises.proofs.AreaSize.{slot_count}
 use Rattle.image_promises.proofs.AreaEnd.{initial_words_are}
 use Rattle.image_promises.specs.TablesInFlash.{WordsFit, WordsStand, TablesReadBack}
@@ -119,10 +119,6 @@ module _ (law : WordLaws) (planned : PlannedPremises) where
       (λ k lt. behind_page (planned_image w n f b).flash 4096 (0 + 4 * k) (omega (arith, size, least))
       ∙ ((let e : 4096 + (0 + 4 * k) ≡ 4096 + 4 * k = omega arith in ap (λ o. read 4 o (planned_image w n f b).flash) e) ∙ area_stands back k lt))
 
-  base_is : t.base ≡ b.flash_base
-  unfolding tables_of
-  base_is = (laid law.read.plans planned).vectors
-
   closed_is : t.closed ≡ b.closed
   unfolding tables_of
   closed_is = refl
@@ -138,7 +134,7 @@ unfolding linked
 tables_read_back law back w n f b ok main main_comp =
     same_tables monitor_code (planned_image w n f b) (planned_tables w n f b)
     (record {
-      base = base_is law (planned_of ok);
+      base = tables_at_base law.read (planned_of ok);
       closed = closed_is law (planned_of ok);
       slots = slots_are law (planned_of ok);
       words = area_read law (planned_of ok) back;

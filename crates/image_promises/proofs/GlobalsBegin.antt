@@ -39,6 +39,7 @@ use Rattle.image_promises.specs.Laws.{FlashReadsBack}
 use Rattle.image_promises.specs.Parts.{linked_build}
 use Rattle.ir_laws.proofs.GlobalShapes.{global_shaped}
 use Rattle.image_promises.proofs.PlannedPremises.{PlannedPremises, image_flash_of, global_address_of}
+use Rattle.image_promises.proofs.GlobalAreas.{address_is}
 use Rattle.image_promises.proofs.GlobalPlaces.{GlobalLaws, placed, in_ram, aligns}
 use Rattle.image_promises.proofs.FilledBlocks.{is_filled}
 use Rattle.image_promises.proofs.FirstValues.{IsKnown, values_known}
@@ -118,9 +119,6 @@ module _ (law : GlobalLaws) (counts : CountsAgree) (typing : TypedOverNumbers) (
 
   -- ---- words of values
 
-  address_is : (x : ℕ) → x < count → get_or (map (global_address_of planned) (numbers_below count)) x 0 ≡ global_address_of planned x
-  address_is x lt = get_or-map-range_with_len (global_address_of planned) 0 count x x 0 lt (let e : 0 + x ≡ x = omega arith in e)
-
   entry_is : (h : ℕ) → h < length p.funcs → entry_at k h ≡ get_or (map (planned_entry p n f l) (numbers_below (length p.funcs))) h 0
   unfolding entry_at
   entry_is h lt = sym (get_or-map-range_with_len (planned_entry p n f l) 0 (length p.funcs) h h 0 lt (let e : 0 + h ≡ h = omega arith in e))
@@ -130,7 +128,7 @@ module _ (law : GlobalLaws) (counts : CountsAgree) (typing : TypedOverNumbers) (
   start_is x lt =
       let long = length-map-range_with_len (global_address_of planned) 0 count in
       let m = get_or-map (λ (a : ℕ). a - b.ram_base) (map (global_address_of planned) (numbers_below count)) x 0 0 (omega (arith, long, lt)) in
-      let e = address_is x lt in
+      let e = address_is law planned x lt in
       let z = low x lt in
       omega (arith, m, e, z)
 

@@ -1,5 +1,5 @@
 -- The check of the blocks that start-up fills passes.
-use Rattle.std.proofs.Common.{◌||◌, eq-eqb, ◌≡◌, ◌≢◌, ℕ, ◌+◌, ◌-◌, ◌*◌, ◌/◌, ◌%◌, ◌^◌, ◌<◌, ◌≤◌, inl, inr, true, List, [], ◌∷◌, length, map, None, refl, sym, ap, ◌∙◌, subst, lit<, arith}
+use Rattle.std.proofs.Common.{◌||◌, eq-eqb, ◌≡◌, ◌≢◌, ℕ, ◌+◌, ◌-◌, ◌*◌, ◌/◌, ◌%◌, ◌^◌, ◌<◌, ◌≤◌, true, List, [], ◌∷◌, length, map, None, refl, sym, ap, ◌∙◌, subst, lit<, arith}
 use Rattle.base_laws.specs.Lists.{Each}
 use Rattle.machine_devices.specs.declared.image.Image.{Image}
 use Rattle.base_ranges.specs.Ranges.{IsInside, AreApart}
@@ -30,7 +30,7 @@ use Rattle.image_promises.proofs.Facts.{stack_size_is, stack_least, monitor_size
 use Rattle.plan_model.proofs.Powers.{small_block}
 use Rattle.image_promises.proofs.OpenBytes.{words_held}
 use Rattle.image_promises.proofs.Passing.{and_yes, eq_yes, lt_yes, data_yes, must_yes, then_yes, apart_from}
-use Rattle.image_promises.proofs.Ranges.{IsUse, globals_for, filled_for, filled_is, uses_are, block_in, small, use_bytes, open_room, holds_it}
+use Rattle.image_promises.proofs.Ranges.{IsUse, globals_for, filled_for, filled_is, uses_are, block_in, small, use_bytes, open_room, holds_it, shorter_apart}
 use Rattle.image_promises.proofs.AreaEnd.{initial_words_are, end_is, has_compartments}
 use Rattle.image_promises.proofs.ReadBack.{ReadLaws}
 use Rattle.image_promises.proofs.ObjectSizes.{global_is_large}
@@ -38,10 +38,6 @@ use Rattle.ir_laws.proofs.GlobalShapes.{global_shaped}
 use Rattle.image_promises.proofs.FinalRegions as regions
 use Rattle.base_laws.proofs.Multiples.{multiple_of}
 use Rattle.base_laws.proofs.Powers.{power_split}
-
-shrink : (a n m c k : ℕ) → n ≤ m → AreApart a m c k → AreApart a n c k
-shrink a n m c k h (inl e) = inl (omega (arith, h, e))
-shrink a n m c k h (inr e) = inr e
 
 -- the check of one record
 passes : (i : Image) (t : Tables) (base count from : ℕ) → base % 4 ≡ 0 → 0 < count → IsInside base (4 * count) i.ram_base i.ram_size → AreApart base (4 * count) t.stack.base t.stack.size
@@ -99,7 +95,7 @@ module _ (law : ReadLaws) (typing : TypedOverNumbers) (laid : GlobalsAreLaid) (p
       let e = held u h in
       let z = stack_size_is law.plans planned in
       let least = stack_least law.plans planned in
-      shrink (base u) (4 * words u) (open_room planned u) l.stack.base l.stack.size e.0
+      shorter_apart (base u) (4 * words u) (open_room planned u) l.stack.base l.stack.size l.stack.size e.0 (omega arith)
       (apart_from (base u) (open_room planned u) l.stack.base l.stack.size e.1 (omega (arith, z, least))
       (λ x a c d g. law.plans.apart p f s b u ForStack x (no_stack u h) (holds_it law.plans planned u h x a c) (d, g)))
 
@@ -107,7 +103,7 @@ module _ (law : ReadLaws) (typing : TypedOverNumbers) (laid : GlobalsAreLaid) (p
   off_monitor u h =
       let e = held u h in
       let z = monitor_size_is law.plans planned in
-      shrink (base u) (4 * words u) (open_room planned u) l.monitor.base 1024 e.0
+      shorter_apart (base u) (4 * words u) (open_room planned u) l.monitor.base 1024 1024 e.0 (omega arith)
       (apart_from (base u) (open_room planned u) l.monitor.base 1024 e.1 (lit< tt)
       (λ x a c d g. law.plans.apart p f s b u ForMonitor x (no_monitor u h) (holds_it law.plans planned u h x a c) (d, omega (arith, g, z))))
 

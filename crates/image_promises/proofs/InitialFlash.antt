@@ -56,16 +56,13 @@ module _ (law : PlanLaws) (counts : CountsAgree) (back : FlashReadsBack) (planne
   abbrev q : Places
   q = object_places p n f l
 
-  pub base_is : l.tables.base ≡ b.flash_base
-  base_is = (laid law planned).vectors
-
   tables_stand : StandAt p q b.flash_base (planned_image w n f b).flash (words_begin p n f l (slots_of b)) t.words
   tables_stand j lt =
       let ends = area_ends t in
       let size = area_size counts p n f l b in
       let long = ap length ends.is ∙ length-append ends.front t.words in
       let m = counts.words p n f l b in
-      let base = base_is in
+      let base = (laid law planned).vectors in
       let s : words_begin p n f l (slots_of b) - b.flash_base + 4 * j ≡ 4096 + 4 * (length ends.front + j) = omega (arith, size, long, m, base) in
       ap (λ a. read 4 a (planned_image w n f b).flash) s
       ∙ (back.words w n f b ok (length ends.front + j) (omega (arith, long, lt))
@@ -77,4 +74,4 @@ module _ (law : PlanLaws) (counts : CountsAgree) (back : FlashReadsBack) (planne
   words_stand = tables_stand
 
   pub from_base : b.flash_base ≤ words_begin p n f l (slots_of b)
-  from_base = let base = base_is in omega (arith, base)
+  from_base = let base = (laid law planned).vectors in omega (arith, base)

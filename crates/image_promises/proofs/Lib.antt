@@ -1,4 +1,4 @@
-pub mod FinalGraphs
+mod FinalGraphs
 pub mod PlannedPremises
 pub mod FlashBack
 pub mod FlashParts

@@ -1,7 +1,6 @@
 -- The globals that a compartment needs are open to it.
-use Rattle.std.proofs.Common.{◌≡◌, ℕ, ◌<◌, ◌≤◌, ◌+◌, true, [], length, map, get_or, ap, ◌∙◌, arith}
+use Rattle.std.proofs.Common.{◌≡◌, ℕ, ◌<◌, ◌+◌, true, [], length, get_or, ap, ◌∙◌, arith}
 use Rattle.std.specs.List.{list_any}
-use Rattle.std.proofs.lemmas.List.{length-map, length-append}
 use Rattle.std.proofs.lemmas.Bool.{or_left, or_right}
 use Rattle.machine_protection.specs.declared.region.Region.{Region}
 use Rattle.machine_protection.specs.Regions.{holds}
@@ -18,8 +17,7 @@ use Rattle.plan_model.specs.Needs.{need_of, has_object}
 use Rattle.plan_model.specs.Groups.{compartment_of, writes, reads}
 use Rattle.plan_model.specs.Regions.{region_at, regions_used, is_user, global_size}
 use Rattle.plan_model.specs.RamBlocks.{ForRegion}
-use Rattle.plan_model.specs.InitialGraph.{initial_graph}
-use Rattle.plan_model.specs.Slots.{data_slot, cover_slot, slot_uses}
+use Rattle.plan_model.specs.Slots.{slot_uses}
 use Rattle.plan_layout_laws.specs.RamLaws.{HoldsAddress}
 use Rattle.need_laws.specs.Reached.{IsListed}
 use Rattle.monitor_model.specs.Records.{compartment_at}
@@ -27,7 +25,7 @@ use Rattle.monitor_model.specs.Setting.{may_load, may_store, allows_stores}
 use Rattle.image_promises.specs.Planned.{planned_tables, planned_image}
 use Rattle.plan.specs.PlannedFirmwares.{plan, planned_sizes}
 use Rattle.image_promises.proofs.PlannedPremises.{PlannedPremises, final_graph_of, global_address_of}
-use Rattle.image_promises.proofs.PlannedSlots.{slot_limits, slots_at}
+use Rattle.image_promises.proofs.PlannedSlots.{FitsSlots, slot_limits, slots_at, few_uses}
 use Rattle.image_promises.proofs.Bearing.{written_stores, borne_holds}
 use Rattle.image_promises.proofs.Compartments.{in_compartment}
 use Rattle.image_promises.proofs.Reach.{one_of, has_listed}
@@ -35,7 +33,6 @@ use Rattle.image_promises.proofs.Lists.{passing_among, each_passing, below_all}
 use Rattle.image_promises.proofs.FinalRegions as regions
 use Rattle.image_promises.proofs.GlobalPlaces.{aligns}
 use Rattle.image_promises.proofs.DataSlots.{DataLaws, written_data, borne_data}
-use Rattle.image_promises.proofs.WindowsOpen.{FitsSlots}
 
 -- what slots rest on
 pub record SlotLaws : Type 0 where
@@ -52,14 +49,6 @@ module _ (law : SlotLaws) (planned : PlannedPremises) where
   l = plan w n f b
 
   -- ---- a compartment's slots
-
-  uses_few : (c : ℕ) → c < f.groups.count → length (slot_uses p f l c) ≤ slots_of b
-  uses_few c m =
-      let most = law.few p (slots_of b) (initial_graph p n f.groups) f (slot_limits planned).0 ok.final c m in
-      let one = length-append (map (data_slot p f l c) (regions_used f.regions c)) (map cover_slot (get_or f.covers c [])) in
-      let two = length-map (regions_used f.regions c) (data_slot p f l c) in
-      let three = length-map (get_or f.covers c []) cover_slot in
-      omega (arith, most, one, two, three)
 
   -- those of its regions come first
   module _ (c : ℕ) (there : c < f.groups.count) (r : ℕ) (region : r < length f.regions) (a : ℕ) (it : HoldsAddress p f l (ForRegion r) a) where
@@ -78,7 +67,7 @@ module _ (law : SlotLaws) (planned : PlannedPremises) where
         ∙ written_stores a (slot_uses p f l c) 4 (slots_of b)
         (written_data law.of_data planned c a r region it writer (regions_used f.regions c) (get_or f.covers c []) used_below
         (used (or_left (has (region_at f.regions r).writers c) (has (region_at f.regions r).readers c) writer)))
-        (uses_few c there) (slot_limits planned).1
+        (few_uses law.few planned c there) (slot_limits planned).1
 
     region_loads : is_user c (region_at f.regions r) ≡ true → may_load (planned_image w n f b) (planned_tables w n f b) c a ≡ true
     unfolding may_load
@@ -88,7 +77,7 @@ module _ (law : SlotLaws) (planned : PlannedPremises) where
         (ap (list_any (λ (g : Region). holds g a)) (slots_at planned c there)
         ∙ borne_holds a (slot_uses p f l c) 4 (slots_of b)
         (borne_data law.of_data planned c a r region it (regions_used f.regions c) (get_or f.covers c []) (used user))
-        (uses_few c there) (slot_limits planned).1))
+        (few_uses law.few planned c there) (slot_limits planned).1))
 
   -- ---- a function's needs
 

@@ -121,6 +121,11 @@ use_bytes planned u = region_bytes (resolve planned.firmware) (globals_for plann
 abbrev pub open_room : PlannedPremises → RamUse → ℕ
 open_room planned u = open_bytes (block (use_bytes planned u)) (use_bytes planned u)
 
+-- shorter ranges are apart where longer ones from the same addresses are
+pub shorter_apart : (b n m c k j : ℕ) → n ≤ m → k ≤ j → AreApart b m c j → AreApart b n c k
+shorter_apart b n m c k j h g (inl e) = inl (omega (arith, h, e))
+shorter_apart b n m c k j h g (inr e) = inr (omega (arith, g, e))
+
 module _ (law : PlanLaws) (planned : PlannedPremises) where
   open planned use {firmware as w, needs as n, final as f, board as b, is_planned as ok}
 
@@ -156,16 +161,12 @@ module _ (law : PlanLaws) (planned : PlannedPremises) where
   holds_it (ForRegion r) h x a c = (a, subst (λ z. x < (region_spot l r).base + open_bytes z (use_bytes planned (ForRegion r))) (sym (block_size_is (ForRegion r) h)) c)
   holds_it ForUnwritten h x a c = (a, subst (λ z. x < (unwrap_or l.unwritten no_spot).base + open_bytes z (use_bytes planned ForUnwritten)) (sym (block_size_is ForUnwritten h)) c)
 
-  shrink : (b n m c k j : ℕ) → n ≤ m → k ≤ j → AreApart b m c j → AreApart b n c k
-  shrink b n m c k j h g (inl e) = inl (omega (arith, h, e))
-  shrink b n m c k j h g (inr e) = inr (omega (arith, g, e))
-
   -- from another such block
   pub two_apart : (u v : RamUse) → u ≢ v → IsUse f u → IsUse f v → AreApart (block_for l u).base (filling u) (block_for l v).base (filling v)
   two_apart u v ne h k =
       let a = words_held (use_bytes planned u) (small u h) in
       let c = words_held (use_bytes planned v) (small v k) in
-      shrink (block_for l u).base (filling u) (open_room planned u) (block_for l v).base (filling v) (open_room planned v) a.0 c.0
+      shorter_apart (block_for l u).base (filling u) (open_room planned u) (block_for l v).base (filling v) (open_room planned v) a.0 c.0
       (apart_from (block_for l u).base (open_room planned u) (block_for l v).base (open_room planned v) a.1 c.1
       (λ x s t y z. law.apart p f _ b u v x ne (holds_it u h x s t) (holds_it v k x y z)))
 

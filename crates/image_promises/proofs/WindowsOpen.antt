@@ -4,7 +4,6 @@ use Rattle.std.specs.List.{list_any, Contains}
 use Rattle.std.proofs.Math.Pow.{pow_mono}
 use Rattle.std.proofs.lemmas.Bool.{leb-true, le-leb, and_from as both, or_left, or_right}
 use Rattle.std.proofs.lemmas.Nat.Bits.{bit_at-zero}
-use Rattle.std.proofs.lemmas.List.{length-map, length-append}
 use Rattle.std.proofs.lemmas.List.Folds.{list_any-from_Any}
 use Rattle.std.proofs.lemmas.List.FromFn.{get_or-map-range_with_len}
 use Rattle.machine_protection.specs.declared.region.Region.{Region}
@@ -20,7 +19,6 @@ use Rattle.ir_laws.specs.Limits.{WindowsLieApart}
 use Rattle.plan_model.specs.declared.needs.Needs.{Needs}
 use Rattle.plan_model.specs.declared.groups.Groups.{Groups}
 use Rattle.plan_model.specs.declared.graph.Cover.{Cover}
-use Rattle.plan_model.specs.declared.graph.Graph.{Graph}
 use Rattle.plan_model.specs.declared.graph.Final.{Final}
 use Rattle.plan_model.specs.Boards.{slots_of}
 use Rattle.plan_model.specs.Lists.{numbers_below, has}
@@ -29,7 +27,6 @@ use Rattle.plan_model.specs.Groups.{compartment_of, uses}
 use Rattle.plan_model.specs.Regions.{regions_used}
 use Rattle.plan_model.specs.Covers.{is_inside, end_of}
 use Rattle.plan_model.specs.InitialGraph.{cover_of, covers_of, initial_graph}
-use Rattle.plan_model.specs.FinalGraph.{IsMerged}
 use Rattle.plan_model.specs.Slots.{SlotUse, cover_slot, data_slot, slot_uses}
 use Rattle.need_laws.specs.Reached.{IsListed}
 use Rattle.monitor_model.specs.Records.{compartment_at}
@@ -40,7 +37,7 @@ use Rattle.plan.specs.PlannedFirmwares.{plan}
 use Rattle.image_promises.specs.Parts.{WindowsAreOpen}
 use Rattle.image_promises.proofs.FinalGraphs.{FinalGraph}
 use Rattle.image_promises.proofs.PlannedPremises.{PlannedPremises, planned_of, final_graph_of}
-use Rattle.image_promises.proofs.PlannedSlots.{slot_limits, slots_at}
+use Rattle.image_promises.proofs.PlannedSlots.{FitsSlots, slot_limits, slots_at, few_uses}
 use Rattle.image_promises.proofs.Bearing.{Bears, Borne, here, there, Written, this, behind, written_behind, borne_holds, written_stores, cover_lets, covers_harmless}
 use Rattle.image_promises.proofs.Covers.{stays_all}
 use Rattle.image_promises.proofs.CoverParts.{IsPart, AreParts}
@@ -147,9 +144,6 @@ module _ (held : RegionsHoldTheirBlocks) (given : RegionsGiveTheirRights) (a : �
 
 -- ---- the tables
 
-abbrev pub FitsSlots : Type 0
-FitsSlots = (p : Program) (slots : ℕ) (g : Graph) (f : Final) → 2 ≤ slots → IsMerged p slots g f → (c : ℕ) → c < f.groups.count → length (regions_used f.regions c) + length (get_or f.covers c []) ≤ slots
-
 -- what open windows rest on
 pub record WindowLaws : Type 0 where
   pub held : RegionsHoldTheirBlocks
@@ -163,14 +157,6 @@ module _ (law : WindowLaws) (planned : PlannedPremises) where
 
   abbrev p : Program
   p = resolve w
-
-  uses_few : (c : ℕ) → c < f.groups.count → length (slot_uses p f (plan w n f b) c) ≤ slots_of b
-  uses_few c l =
-      let most = few p (slots_of b) (initial_graph p n f.groups) f (slot_limits planned).0 is.final c l in
-      let one = length-append (map (data_slot p f (plan w n f b) c) (regions_used f.regions c)) (map cover_slot (get_or f.covers c [])) in
-      let two = length-map (regions_used f.regions c) (data_slot p f (plan w n f b) c) in
-      let three = length-map (get_or f.covers c []) cover_slot in
-      omega (arith, most, one, two, three)
 
   slots_written : (g q j : ℕ) → g < length p.funcs → has (need_of n g).periphs q ≡ true → q < length p.periphs → j < (window_at p q).size
       → Written ((window_at p q).base + j) (slot_uses p f (plan w n f b) (compartment_of f.groups g))
@@ -194,7 +180,7 @@ module _ (law : WindowLaws) (planned : PlannedPremises) where
       or_right _ _
       (or_left (list_any (λ (r : Region). holds r a) (compartment_at (planned_tables w n f b) c).slots) _
       (ap (list_any (λ (r : Region). holds r a)) (slots_at planned c inn.below)
-      ∙ borne_holds a (slot_uses p f (plan w n f b) c) 4 (slots_of b) (written_borne held given a (slot_uses p f (plan w n f b) c) (slots_written g q j l h m s)) (uses_few c inn.below) (slot_limits planned).1))
+      ∙ borne_holds a (slot_uses p f (plan w n f b) c) 4 (slots_of b) (written_borne held given a (slot_uses p f (plan w n f b) c) (slots_written g q j l h m s)) (few_uses few planned c inn.below) (slot_limits planned).1))
 
   window_stores : (g q j : ℕ) → g < length p.funcs → has (need_of n g).periphs q ≡ true → q < length p.periphs → j < (window_at p q).size
       → may_store (planned_tables w n f b) (compartment_of f.groups g) ((window_at p q).base + j) ≡ true
@@ -204,7 +190,7 @@ module _ (law : WindowLaws) (planned : PlannedPremises) where
       let a : ℕ = (window_at p q).base + j in
       let inn = in_compartment p f.groups is.groups g l in
       ap (λ gs. allows_stores (deciding gs a)) (slots_at planned c inn.below)
-      ∙ written_stores a (slot_uses p f (plan w n f b) c) 4 (slots_of b) (slots_written g q j l h m s) (uses_few c inn.below) (slot_limits planned).1
+      ∙ written_stores a (slot_uses p f (plan w n f b) c) 4 (slots_of b) (slots_written g q j l h m s) (few_uses few planned c inn.below) (slot_limits planned).1
 
 pub windows_are_open : WindowLaws → WindowsAreOpen
 windows_are_open law code w n f b is = record {
