@@ -7,8 +7,8 @@ ghost use Rattle.ir_program.specs.Seen.{program_of, routine_of};
 ghost use Rattle.code_model.specs.FrameShape as frames;
 
 use crate::routines::routine_at;
+use ir_model::rounding::rounded_up;
 use ir_program::program::{Program, Routine, Storage};
-use ir_rounding::rounded_up;
 
 /// The bytes of a local, rounded up to whole words; none where they pass 32 bits.
 pub fn local_size(local: &Storage) -> Option<u32>

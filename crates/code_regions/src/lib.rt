@@ -10,8 +10,8 @@ ghost use Rattle.plan_model.specs.TableSize as table_size;
 ghost use Rattle.code_regions.specs.Passing.{Passes};
 
 use ir_model::extent::Extent;
+use ir_model::rounding::rounded_up;
 use ir_program::program::Program;
-use ir_rounding::rounded_up;
 
 /// The size and the alignment of a global, in bytes, by its number; those of no bytes where the program has no such global.
 pub fn extent_of(program: &Program, global: u32) -> Extent

@@ -9,8 +9,8 @@ ghost use Rattle.plan_model.specs.Blocks.{offset_in_region};
 ghost use Rattle.plan_model.specs.Placement as placement;
 
 use code_regions::extent_of;
+use ir_model::rounding::rounded_up;
 use ir_program::program::Program;
-use ir_rounding::rounded_up;
 use plan_model::graph::Final;
 use plan_model::plan::{Plan, Spot};
 use std::alloc::{AllocError, Global};

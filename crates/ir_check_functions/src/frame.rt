@@ -13,7 +13,7 @@ use ir_check_scopes::found::require;
 use ir_check_scopes::{CheckFault, CheckPlaceRef, Scope};
 use ir_model::check::CheckKind;
 use ir_model::firmware::Func;
-use ir_rounding::rounded_up;
+use ir_model::rounding::rounded_up;
 
 /// The most bytes of a frame.
 const FRAME_LIMIT: u32 = 992;

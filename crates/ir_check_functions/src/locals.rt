@@ -16,8 +16,8 @@ use ir_check_scopes::sizes::object_size;
 use ir_check_scopes::type_names::type_names;
 use ir_check_scopes::{CheckFault, CheckPlaceRef, Scope};
 use ir_model::firmware::Binding;
+use ir_model::rounding::rounded_up;
 use ir_names::Names;
-use ir_rounding::rounded_up;
 
 #[tactic(auto, using(ir_check_scopes::proofs::Order::checks_in_order, ir_check_scopes::proofs::Order::checks_behind_one))]
 fn named_binding<'a>(

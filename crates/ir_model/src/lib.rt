@@ -6,6 +6,7 @@ pub mod checked;
 pub mod extent;
 pub mod firmware;
 pub mod object;
+pub mod rounding;
 pub mod text_limits;
 pub mod token;
 pub mod types;

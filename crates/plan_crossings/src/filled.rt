@@ -5,7 +5,7 @@ ghost use Rattle.std.proofs.Math.ListN.{take};
 ghost use Rattle.code_model.specs.CompartmentCode.{members_from};
 ghost use Rattle.plan_crossings.specs.Filled.{filled_total};
 
-use ir_rounding::rounded_up;
+use ir_model::rounding::rounded_up;
 
 /// The bytes of the functions of a compartment that stand before a number, each filled up to a multiple of four, by the compartments and the
 /// bytes of all functions. None where they are 2^32 or more.

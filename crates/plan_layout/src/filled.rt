@@ -5,7 +5,7 @@ ghost use Rattle.plan_model.specs.RamPlacement as placement;
 ghost use Rattle.plan_layout.specs.Filling.{use_seen, block_seen, tail_seen, ram_seen, filled_by};
 
 use crate::ram::{Purpose, Tail, UsedBlock};
-use ir_rounding::rounded_up;
+use ir_model::rounding::rounded_up;
 use plan_model::Spot;
 use std::alloc::{AllocError, Global};
 

@@ -9,8 +9,8 @@ ghost use Rattle.plan_layout.specs.Filling.{use_seen, block_seen, tail_seen};
 
 use crate::blocks::block_size;
 use code_regions::region_bytes;
+use ir_model::rounding::rounded_up;
 use ir_program::program::Program;
-use ir_rounding::rounded_up;
 use plan_model::graph::{DataRegion, Final};
 use std::alloc::{AllocError, Global};
 

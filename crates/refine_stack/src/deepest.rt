@@ -6,7 +6,7 @@ ghost use Rattle.refine_stack.specs.Listed.{IsThere, AreThere};
 ghost use Rattle.refine_stack.specs.Taken.{value, IsRaised, IsRelaxed, IsRound, IsSound, IsClosed};
 
 use crate::calls::Call;
-use ir_rounding::rounded_up;
+use ir_model::rounding::rounded_up;
 use std::alloc::{AllocError, Global};
 
 /// What is taken above a callee's frame, by what its caller and those before it take; none where that takes more than 32 bits.

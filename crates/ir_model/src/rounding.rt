@@ -1,5 +1,4 @@
 //! The next multiple of a number, in 32 bits.
-#![tactic(auto)]
 
 ghost use Rattle.std.specs.Prelude.{◌≡◌, ◌^◌, ◌≤◌, IfNone, IfSome};
 ghost use Rattle.ir_model.specs.Layout as layout;
