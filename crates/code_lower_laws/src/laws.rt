@@ -26,5 +26,5 @@ pub fn typed()
     ir_laws::typing::places();
     ir_laws::limits::counts();
     code_model::laws::frames();
-    code_frames::laws::checked();
+    code_model::frame_laws::checked();
 }

@@ -5,7 +5,7 @@ use Rattle.ir_model.specs.Plain.{PlainBinding, PlainFunc, regs_of}
 use Rattle.ir_model.specs.Layout.{Known, shape, Shape}
 use Rattle.ir_model.specs.Frames as frames
 use Rattle.ir_model.specs.Resolve.{Scope, resolved_func}
-use Rattle.code_frames.specs.Places as named
+use Rattle.code_model.specs.FramePlaces as named
 use Rattle.code_model.specs.FrameShape.{locals_size, starts_from, local_size}
 use Rattle.code_model.specs.Laws.{FramesAgree}
 

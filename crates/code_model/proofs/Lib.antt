@@ -11,3 +11,5 @@ pub mod Labels
 pub mod Members
 pub mod Lends
 pub mod Scales
+mod FrameParts
+mod CheckedFrames

@@ -10,7 +10,7 @@ use Rattle.ir_model.specs.Frames as frames
 use Rattle.ir_model.specs.Resolved.{Program, NumberedInst, NumberedTerm, NumberedFunc, Call, ICall, Here, Does, no_block}
 use Rattle.ir_model.specs.Resolve.{Scope, resolved_func}
 use Rattle.ir_model.specs.Signatures.{here_of}
-use Rattle.code_frames.specs.Places as named
+use Rattle.code_model.specs.FramePlaces as named
 use Rattle.plan_model.specs.declared.needs.Needs.{Needs}
 use Rattle.plan_model.specs.declared.groups.Groups.{Groups}
 use Rattle.plan_model.specs.Crossing.{site_number}

@@ -14,3 +14,4 @@ pub mod Planned
 pub mod Emitted
 pub mod Fitting
 pub mod Laws
+pub mod FramePlaces

@@ -7,7 +7,7 @@ use Rattle.ir_model.specs.Types.{U8, U16, U32, nothing}
 use Rattle.ir_model.specs.Plain.{PlainFunc}
 use Rattle.ir_model.specs.Layout.{known}
 use Rattle.ir_model.specs.Frames.{frame_size}
-use Rattle.code_frames.specs.Places.{register_offset, local_offset, return_offset}
+use Rattle.code_model.specs.FramePlaces.{register_offset, local_offset, return_offset}
 use Rattle.example_machine.specs.Written.{binding, block, func}
 
 abbrev pub example : PlainFunc

@@ -19,7 +19,6 @@ ghost use Rattle.image_blocks.specs.Filling.{filled_of, object_places, first_in,
 use crate::places::{offset_in, region_spot, unwritten_spot};
 use base_words::memory::{Width, read_value, write_value};
 use code_model::Addresses;
-use code_regions::words_in;
 use ir_model::types::Ty;
 use ir_program::program::{Program, Variable};
 use ir_program::types::zero;
@@ -27,6 +26,7 @@ use ir_program::value::Value;
 use monitor_model::InitRecord;
 use plan_model::graph::Final;
 use plan_model::plan::Plan;
+use plan_sizes::regions::words_in;
 use std::alloc::{AllocError, Global};
 
 /// A block of RAM and its globals.

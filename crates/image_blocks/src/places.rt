@@ -8,11 +8,11 @@ ghost use Rattle.plan_model.specs.Lists.{numbers_below};
 ghost use Rattle.plan_model.specs.Blocks.{offset_in_region};
 ghost use Rattle.plan_model.specs.Placement as placement;
 
-use code_regions::extent_of;
 use ir_model::rounding::rounded_up;
 use ir_program::program::Program;
 use plan_model::graph::Final;
 use plan_model::plan::{Plan, Spot};
+use plan_sizes::regions::extent_of;
 use std::alloc::{AllocError, Global};
 
 /// Where a global begins in the block of some globals.

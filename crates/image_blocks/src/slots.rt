@@ -12,7 +12,6 @@ ghost use Rattle.image_blocks.specs.Uses.{use_of, slots_left};
 
 use crate::places::region_spot;
 use base_lists::ListVec;
-use code_regions::region_bytes;
 use ir_program::program::Program;
 use machine_protection::power::Pow2;
 use machine_protection::region::Region;
@@ -20,6 +19,7 @@ use machine_protection::words::{Rights, region};
 use monitor_model::CompRecord;
 use plan_model::graph::{Cover, DataRegion, Final};
 use plan_model::plan::{Plan, Spot};
+use plan_sizes::regions::region_bytes;
 use std::alloc::{AllocError, Global};
 
 /// What a slot is for: a block, which of its eighths are taken out, and who may do what there.

@@ -8,13 +8,13 @@ ghost use Rattle.ir_model.specs.Resolved.{window_at};
 ghost use Rattle.ir_program.specs.Seen.{program_of};
 
 use crate::rising::{Lying, rising};
-use code_regions::extent_of;
 use image_linker::LinkParts;
 use ir_program::program::Program;
 use plan_model::plan::Spot;
 use plan_report::naming::{put_global, put_periph};
 use plan_report::subject::Subject;
 use plan_report::text::Text;
+use plan_sizes::regions::extent_of;
 use std::alloc::{AllocError, Global};
 
 /// Puts the line of a block.

@@ -9,8 +9,8 @@ use crate::periphs::periphs;
 use crate::structs::structs;
 use crate::tables::scope;
 use ir_check_scopes::{CheckFault, Scope};
-use ir_firmware_names::struct_names;
 use ir_model::firmware::Firmware;
+use ir_names::firmware_names::struct_names;
 use std::alloc::Global;
 
 /// The checks of structs and peripherals, and the tables of the firmware.

@@ -8,9 +8,9 @@ ghost use Rattle.ir_check_declarations.specs.DeclarationParts.{file_part};
 
 use ir_check_scopes::new_names::add_new;
 use ir_check_scopes::{CheckFault, CheckPlaceRef};
-use ir_firmware_names::{add_globals, periph_names};
 use ir_model::firmware::{FileDecl, Firmware, Func};
 use ir_names::Names;
+use ir_names::firmware_names::{add_globals, periph_names};
 use std::alloc::{AllocError, Global};
 
 fn func_names<'a>(seen: &mut Names<'a>, funcs: &'a [Func]) -> Result<(), CheckFault>

@@ -5,10 +5,10 @@ ghost use Rattle.ir_model.specs.Plain.{PlainFunc, PlainGlobal, PlainStruct, stru
 ghost use Rattle.ir_check_scopes.specs.Scopes.{lent, declared_funcs};
 
 use ir_check_scopes::Scope;
-use ir_firmware_names::{func_names, global_names};
 use ir_layouts::table::Layouts;
 use ir_model::firmware::{FileDecl, Firmware, Func};
 use ir_names::Names;
+use ir_names::firmware_names::{func_names, global_names};
 use std::alloc::{AllocError, Global};
 
 fn put_funcs<'a>(bodies: &mut Vec<&'a Func>, funcs: &'a [Func]) -> Result<(), AllocError>

@@ -5,10 +5,10 @@ ghost use Rattle.ir_model.specs.Plain.{func_of};
 ghost use Rattle.ir_model.specs.Resolve.{labels_of};
 
 use ir_check_scopes::FuncScope;
-use ir_firmware_names::{local_names, register_names};
 use ir_model::firmware::Func;
 use ir_model::types::Ty;
 use ir_names::Names;
+use ir_names::firmware_names::{local_names, register_names};
 use std::alloc::{AllocError, Global};
 
 /// The tables of a function that has these labels.

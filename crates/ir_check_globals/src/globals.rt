@@ -18,11 +18,11 @@ use ir_check_scopes::sizes::object_size;
 use ir_check_scopes::type_names::type_names;
 use ir_check_scopes::values::{holds_address, holds_number};
 use ir_check_scopes::{CheckFault, CheckPlaceRef, Scope};
-use ir_firmware_names::periph_names;
 use ir_model::check::CheckKind;
 use ir_model::firmware::{Cell, Global as GlobalDecl};
 use ir_model::types::Ty;
 use ir_names::Names;
+use ir_names::firmware_names::periph_names;
 use std::alloc::Global;
 
 #[tactic(auto, using(ir_check_scopes::proofs::Order::checks_behind_one))]

@@ -13,13 +13,13 @@ ghost use Rattle.ir_resolve.specs.Scopes.{scope_of, named_func, AreFuncNames, Ar
 use crate::names::{FuncNames, Scope};
 use crate::routines::register_types;
 use base_names::Name;
-use ir_firmware_names::{
-    func_names, global_names, label_names, local_names, periph_names, register_names,
-};
 use ir_layouts::fault::LayoutFault;
 use ir_layouts::table::Layouts;
 use ir_model::firmware::{Firmware, Func};
 use ir_model::types::Ty;
+use ir_names::firmware_names::{
+    func_names, global_names, label_names, local_names, periph_names, register_names,
+};
 use ir_program::program::Target;
 use std::alloc::{AllocError, Global};
 

@@ -20,11 +20,11 @@ use crate::numbers::{first_greatest, least, lesser};
 use crate::ram::{Purpose, falling_blocks, falling_others};
 use crate::refusal::{Lack, Memory, PlaceRefusal};
 use base_lists::ListVec;
-use code_regions::region_bytes;
 use ir_program::program::Program;
 use plan_model::Spot;
 use plan_model::graph::{DataRegion, Final};
 use plan_model::plan::{Board, Lowest, Plan, Sizes};
+use plan_sizes::regions::region_bytes;
 use std::alloc::{AllocError, Global};
 
 /// Where the blocks of RAM lie.

@@ -8,10 +8,10 @@ ghost use Rattle.plan_model.specs.RamPlacement as placement;
 ghost use Rattle.plan_layout.specs.Filling.{use_seen, block_seen, tail_seen};
 
 use crate::blocks::block_size;
-use code_regions::region_bytes;
 use ir_model::rounding::rounded_up;
 use ir_program::program::Program;
 use plan_model::graph::{DataRegion, Final};
+use plan_sizes::regions::region_bytes;
 use std::alloc::{AllocError, Global};
 
 /// The bytes of the monitor's block.

@@ -6,7 +6,7 @@ ghost use Rattle.plan_model.specs.TableSize as table_size;
 ghost use Rattle.plan_crossings.specs.Seen.{seen_sites};
 ghost use Rattle.plan_sizes.specs.Parts.{region_words, block_count, record_bytes};
 
-use code_regions::words_in;
+use crate::regions::words_in;
 use ir_program::program::Program;
 use plan_crossings::target_count;
 use plan_model::graph::Final;
