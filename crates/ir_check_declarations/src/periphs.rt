@@ -28,7 +28,7 @@ fn is_apart(earlier: &[Peripheral], periph: &Peripheral) -> bool
     earlier.iter().all(|other| are_apart(other.base, other.size, periph.base, periph.size))
 }
 
-#[tactic(auto, using(ir_check_scopes::proofs::Order::checks_in_order, ir_check_scopes::proofs::Order::checks_behind_one))]
+#[tactic(auto, using(ir_check_scopes::proofs::Order::checks_of_both))]
 fn periph<'a>(
     seen: &mut Names<'a>,
     earlier: &[Peripheral],

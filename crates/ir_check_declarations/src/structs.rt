@@ -18,7 +18,7 @@ use ir_model::firmware::{Binding, StructDecl};
 use ir_names::Names;
 use std::alloc::Global;
 
-#[tactic(auto, using(ir_check_scopes::proofs::Order::checks_in_order, ir_check_scopes::proofs::Order::checks_behind_one))]
+#[tactic(auto, using(ir_check_scopes::proofs::Order::checks_of_both))]
 fn field<'a, 'n>(
     declared: &Names<'n>,
     earlier: &Names<'n>,
@@ -50,7 +50,7 @@ fn fields<'n>(
     Ok(())
 }
 
-#[tactic(auto, using(ir_check_scopes::proofs::Order::checks_in_order, ir_check_scopes::proofs::Order::checks_behind_one))]
+#[tactic(auto, using(ir_check_scopes::proofs::Order::checks_of_both))]
 fn named_fields<'n>(
     alloc: Global,
     declared: &Names<'n>,

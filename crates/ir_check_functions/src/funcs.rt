@@ -20,7 +20,7 @@ use ir_check_scopes::{CheckFault, CheckPlaceRef, Scope};
 use ir_model::firmware::Func;
 use std::alloc::Global;
 
-#[tactic(auto, using(ir_check_scopes::proofs::Order::checks_in_order, ir_check_scopes::proofs::Order::checks_behind_one))]
+#[tactic(auto, using(ir_check_scopes::proofs::Order::checks_of_both))]
 fn body(alloc: Global, scope: &Scope, func: &Func) -> Result<(), CheckFault>
     requires { All (λ (b : Block). length b.insts ≤ instruction_limit) func.now.blocks }
     ensures { Finds (body_part (firmware_of scope.now.firmware.now) (func_of func.now)) result }

@@ -17,7 +17,7 @@ fn one_known(func: &FuncScope, spot: CheckPlaceRef, name: &Name) -> Result<(), C
     require_known(func.registers.has(name), name, spot)
 }
 
-#[tactic(auto, using(ir_check_scopes::proofs::Order::checks_in_order, ir_check_scopes::proofs::Order::checks_behind_one))]
+#[tactic(auto, using(ir_check_scopes::proofs::Order::checks_of_both))]
 fn two_known(func: &FuncScope, spot: CheckPlaceRef, a: &Name, b: &Name) -> Result<(), CheckFault>
     ensures { Finds (registers_known (func_of func.now.func.now) (place_of spot.entry) (a.now ∷ b.now ∷ [])) result }
 {
@@ -26,7 +26,7 @@ fn two_known(func: &FuncScope, spot: CheckPlaceRef, a: &Name, b: &Name) -> Resul
     Ok(())
 }
 
-#[tactic(auto, using(ir_check_scopes::proofs::Order::checks_in_order, ir_check_scopes::proofs::Order::checks_behind_one))]
+#[tactic(auto, using(ir_check_scopes::proofs::Order::checks_of_both))]
 fn three_known(
     func: &FuncScope,
     spot: CheckPlaceRef,
@@ -78,7 +78,7 @@ fn address_known(
 }
 
 /// Whether each name of a block's end is there.
-#[tactic(auto, using(ir_check_scopes::proofs::Order::checks_in_order, ir_check_scopes::proofs::Order::checks_behind_one))]
+#[tactic(auto, using(ir_check_scopes::proofs::Order::checks_of_both))]
 pub fn term_names(func: &FuncScope, spot: CheckPlaceRef, term: &Term) -> Result<(), CheckFault>
     ensures { Finds (term_names (func_of func.now.func.now) (place_of spot.entry) term.now) result }
 {
@@ -95,7 +95,7 @@ pub fn term_names(func: &FuncScope, spot: CheckPlaceRef, term: &Term) -> Result<
 }
 
 /// Whether each name of an instruction is there, from left to right.
-#[tactic(auto, using(ir_check_scopes::proofs::Order::checks_in_order, ir_check_scopes::proofs::Order::checks_behind_one))]
+#[tactic(auto, using(ir_check_scopes::proofs::Order::checks_of_both))]
 pub fn inst_names(
     scope: &Scope,
     func: &FuncScope,

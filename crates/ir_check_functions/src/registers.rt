@@ -18,7 +18,7 @@ use ir_model::firmware::Binding;
 use ir_model::types::Ty;
 use ir_names::Names;
 
-#[tactic(auto, using(ir_check_scopes::proofs::Order::checks_in_order, ir_check_scopes::proofs::Order::checks_behind_one))]
+#[tactic(auto, using(ir_check_scopes::proofs::Order::checks_of_both))]
 fn register<'a>(
     declared: &Names,
     spot: CheckPlaceRef,

@@ -102,7 +102,7 @@ fn first_values<'a>(
     Ok(())
 }
 
-#[tactic(auto, using(ir_check_scopes::proofs::Order::checks_in_order, ir_check_scopes::proofs::Order::checks_behind_one))]
+#[tactic(auto, using(ir_check_scopes::proofs::Order::checks_of_both))]
 fn named<'a>(scope: &Scope, seen: &mut Names<'a>, global: &'a GlobalDecl) -> Result<(), CheckFault>
     ensures finds { Finds (named_check scope.now.structs seen.old (global_of global.now)) result }
     ensures grows { OnOk result (seen.new ≡ seen.old ++ global.now.name ∷ []) }

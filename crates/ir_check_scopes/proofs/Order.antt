@@ -41,6 +41,9 @@ refused_behind c b e n h = refused_right (c ∷ []) b e n h
 -- for functions that make one check before those of a part
 pub ruleset checks_behind_one = (refused_one, refused_behind, first_behind)
 
+-- of both kinds
+pub ruleset checks_of_both = (refused_left, refused_right, first_stays, first_append, refused_one, refused_behind, first_behind)
+
 -- along a loop: what is left to check
 pub passed : (all one rest : Checks) → first_failing all ≡ first_failing (one ++ rest) → first_failing one ≡ None → first_failing all ≡ first_failing rest
 passed all one rest e n = e ∙ first_append one rest n

@@ -5,10 +5,13 @@ use Rattle.ir_model.specs.declared.token.Excess.{Excess}
 use Rattle.ir_model.specs.declared.token.Excess.TheVariants.{TooWide}
 use Rattle.ir_model.specs.declared.token.TextLimit.{TextLimit}
 use Rattle.ir_model.specs.Lines.{counted, word_excess, number_excess, depth_excess, or_else}
-use Rattle.ir_model.proofs.NoExcess.{second_none, counted_none, name_of_short, depth_behind}
+use Rattle.ir_model.proofs.NoExcess.{first_none, second_none, counted_none, name_of_short, depth_behind}
 
 pub type_depth : (x : Option Excess) (d : ℕ) (y : Option Excess) → or_else x (depth_excess d y) ≡ None → d < 8
 type_depth x d y h = counted_none d 8 _ y (second_none x _ h)
+
+-- what a type's word says that passes no limit
+pub ruleset depth_rules = (first_none, type_depth)
 
 pub name_of_type : (w : List ℕ) (x : Option Excess) (d : ℕ) → is_word w ≡ true → is_reserved w ≡ false → or_else x (depth_excess d (word_excess w)) ≡ None → is_name w ≡ true
 name_of_type w x d i r h = name_of_short w i r (depth_behind d (word_excess w) (second_none x _ h))

@@ -102,7 +102,7 @@ pub fn ty(
 
 /// A pointer's type, whose star was read, and the text behind it.
 #[cycle(types)]
-#[tactic(auto, using(ir_model::proofs::NoExcess::first_none, crate::proofs::Kept::type_depth))]
+#[tactic(auto, using(crate::proofs::Kept::depth_rules))]
 fn pointer(
     alloc: Global,
     first: Option<Excess>,
@@ -120,7 +120,7 @@ fn pointer(
 
 /// An array's type, whose first bracket was read, and the text behind it.
 #[cycle(types)]
-#[tactic(auto, using(ir_model::proofs::NoExcess::first_none, crate::proofs::Kept::type_depth))]
+#[tactic(auto, using(crate::proofs::Kept::depth_rules))]
 fn array(
     alloc: Global,
     first: Option<Excess>,
@@ -140,7 +140,7 @@ fn array(
 
 /// A function's type, whose reserved word was read, and the text behind it.
 #[cycle(types)]
-#[tactic(auto, using(ir_model::proofs::NoExcess::first_none, crate::proofs::Kept::type_depth))]
+#[tactic(auto, using(crate::proofs::Kept::depth_rules))]
 fn function(
     alloc: Global,
     first: Option<Excess>,

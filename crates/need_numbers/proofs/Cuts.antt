@@ -121,6 +121,9 @@ is_there ss i o x r l e f g = sym (there ss i o x l e (sym f ∙ g))
 pub in_none : (ss : List (List ℕ)) (i o : ℕ) → length ss ≤ i → has o (joined (take i ss)) ≡ false → false ≡ has o (joined ss)
 in_none ss i o l e = sym e ∙ ap (λ (ys : List (List ℕ)). has o (joined ys)) (take_all i ss l)
 
+-- a number that is looked for among runs, one run more
+pub ruleset cut_rules = (not_in_more, is_there, in_none)
+
 -- a stretch that was looked at twice
 pub alike_at : (ss : List (List ℕ)) (n : ℕ) (x y : List ℕ) → n < length ss → x ≡ get_or ss n x → y ≡ get_or ss n y → x ≡ y
 alike_at ss n x y l e f = e ∙ (get_or_default ss n x y l ∙ sym f)

@@ -84,7 +84,7 @@ impl Numbers {
     }
 
     /// Whether a number is among them.
-    #[tactic(auto, using(crate::proofs::Cuts::not_in_more, crate::proofs::Cuts::is_there, crate::proofs::Cuts::in_none))]
+    #[tactic(auto, using(crate::proofs::Cuts::cut_rules))]
     pub fn contains(&self, number: u32) -> bool
         ensures { result ≡ has number self.now }
     {

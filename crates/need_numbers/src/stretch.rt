@@ -97,7 +97,7 @@ fn put(runs: &mut Vec<Run>, others: &mut Vec<u32>, number: u32) -> Result<(), Al
 }
 
 /// Whether runs have a number.
-#[tactic(auto, using(crate::proofs::Cuts::not_in_more, crate::proofs::Cuts::is_there, crate::proofs::Cuts::in_none))]
+#[tactic(auto, using(crate::proofs::Cuts::cut_rules))]
 fn are_with(runs: &[Run], number: u32) -> bool
     ensures { result ≡ has number (joined runs.now) }
 {
