@@ -16,7 +16,7 @@ use Rattle.aces_files.specs.Effects.{IsRewritten}
 use Rattle.aces_firmwares.specs.Firmwares.{IsFirmware}
 use Rattle.refine_stack.specs.declared.answer.StackAnswer.{StackAnswer}
 use Rattle.refine_stack.specs.declared.answer.StackAnswer.TheVariants.{Cycle, Bound}
-use Rattle.aces_stack_laws.specs.Bounded.{Fits, ImagesRefineWhole}
+use Rattle.aces_stack.specs.Bounded.{Fits, ImagesRefineWhole}
 use Rattle.aces_stack.specs.Lines.{stack_status}
 use Rattle.aces_firmwares.specs.PlanAnswer as plans
 use Rattle.aces_firmwares.specs.PlanAnswer.{PlanAnswer}

@@ -12,7 +12,7 @@ use Rattle.plan_compartments.specs.Divisions.{division}
 use Rattle.monitor_model.specs.Layout.{initial_word_count}
 use Rattle.image_promises.specs.Planned.{planned_tables}
 use Rattle.aces_compiler.specs.ByPolicy.{IsImageBy}
-use Rattle.aces_stack_laws.specs.Whole.{RefinesWhole}
+use Rattle.aces_stack.specs.Whole.{RefinesWhole}
 use Rattle.aces_files.specs.Known.{Held, HoldsWithin, Exceeds}
 use Rattle.aces_files.specs.Outcomes.{Outcome}
 use Rattle.aces_firmwares.specs.Firmwares.{IsFirmware}

@@ -34,7 +34,7 @@ use Rattle.image_runs.specs.OtherCode.{WithOtherCode}
 use Rattle.image_runs.specs.Isolated.{IsIsolated}
 use Rattle.image_runs.specs.Own.{SlotsAreOwn}
 use Rattle.image_runs.specs.Whole.{KeepsTheInvariant}
-use Rattle.aces_printed_runs.specs.PrintedRuns.{RunsAreAlike}
+use Rattle.aces_compiler.specs.PrintedRuns.{RunsAreAlike}
 use Rattle.refine.specs.NeverWrong.{RunsAreNeverWrong}
 use Rattle.image_promises.specs.Guarded.{IsStackGuarded}
 

@@ -13,7 +13,7 @@ use Rattle.image_runs.specs.ReplacedCode.{CodeKeepsTables, PlannedImagesKeepProm
 use Rattle.image_runs.specs.Isolated.{PlannedRunsAreIsolated}
 use Rattle.image_runs.specs.Own.{PlannedSlotsAreOwn}
 use Rattle.image_runs.specs.Whole.{PlannedImagesKeepTheInvariant, PlannedImagesKeepTheLaw, PlannedImagesStart, PlannedImagesTellWhoRuns}
-use Rattle.aces_printed_runs.specs.PrintedRuns.{RefiningImagesAreAlike}
+use Rattle.aces_compiler.specs.PrintedRuns.{RefiningImagesAreAlike}
 
 -- what holds of the image of each planned firmware, and of what is planned and written to it
 pub record Promises : Type 0 where

@@ -2,7 +2,7 @@
 
 ghost use Rattle.aces_compiler.specs.Promises.{Promises};
 
-use aces_printed_runs::laws::runs_are_alike;
+use crate::printed_runs::runs_are_alike;
 use image_promises::guards::{images_are_never_wrong, largest};
 use image_promises::images::{confined, for_boards, refined};
 use image_promises::needed::{masks_are_needed, permissions_are_bounded, runs_stay_in_policy};

@@ -4,6 +4,7 @@
 mod compiling;
 mod laws;
 mod pipeline;
+pub mod printed_runs;
 mod replacing;
 
 pub use compiling::compile;

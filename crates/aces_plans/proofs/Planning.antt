@@ -12,7 +12,7 @@ use Rattle.aces_firmwares.proofs.Unplanned.{refused_so}
 use Rattle.aces_stack.specs.Limited.{IsLimited}
 use Rattle.aces_stack.specs.Lines.{stack_lines, stack_status}
 use Rattle.refine_stack.specs.declared.answer.StackAnswer.{StackAnswer}
-use Rattle.aces_stack_laws.specs.Bounded.{IsStackBy}
+use Rattle.aces_stack.specs.Bounded.{IsStackBy}
 use Rattle.aces_files.specs.Outcomes.{done}
 use Rattle.aces_plans.specs.Answers.{StackAnswers, bounded}
 use Rattle.aces_plans.specs.Answers as answers

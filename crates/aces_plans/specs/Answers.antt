@@ -8,11 +8,11 @@ use Rattle.plan_model.specs.declared.plan.Board.{Board}
 use Rattle.plan_model.specs.declared.limits.LimitKind.{LimitKind}
 use Rattle.plan_board.specs.Reading as boards
 use Rattle.plan.specs.declared.refusal.PlanningRefusal.TheVariants as planning
-use Rattle.aces_listing.specs.Listings.{IsListing}
-use Rattle.aces_symbols.specs.FirmwareSymbols.{AreSymbols}
+use Rattle.aces_plans.specs.Listings.{IsListing}
+use Rattle.aces_plans.specs.FirmwareSymbols.{AreSymbols}
 use Rattle.aces_stack.specs.Lines.{stack_lines, stack_status}
 use Rattle.refine_stack.specs.declared.answer.StackAnswer.{StackAnswer}
-use Rattle.aces_stack_laws.specs.Bounded.{IsStackBy}
+use Rattle.aces_stack.specs.Bounded.{IsStackBy}
 use Rattle.plan_firmwares.specs.Unplanned.{IsRefusedBy}
 use Rattle.aces_files.specs.Answers.{AnswerByFiles}
 use Rattle.aces_files.specs.Contents.{IsNoBoard}

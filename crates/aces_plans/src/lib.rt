@@ -2,5 +2,7 @@
 #![tactic(auto)]
 
 pub mod list;
+mod listings;
 pub mod stack;
+mod symbol_lines;
 pub mod symbolizing;

@@ -8,11 +8,11 @@ ghost use Rattle.aces_files.specs.CarriesOut.{CarriesOut};
 ghost use Rattle.aces_plans.specs.Answers.{ListAnswer, AnswerToList};
 ghost use Rattle.base_outside.specs.Sinks.{sink};
 
+use crate::listings::listing_of;
 use aces_files::failure::planning_failure;
 use aces_files::loading::{board_of, load_firmware_and};
 use aces_files::telling::print;
 use aces_firmwares::reading::firmware_of;
-use aces_listing::listing_of;
 use aces_reports::{Done, Failure};
 use base_outside::{Files, Sink};
 use plan_model::Policy;

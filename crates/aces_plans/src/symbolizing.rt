@@ -8,12 +8,12 @@ ghost use Rattle.aces_files.specs.Loads.{IsRefusal};
 ghost use Rattle.aces_files.specs.Outcomes.{done};
 ghost use Rattle.aces_plans.specs.Answers.{SymbolsAnswer, AnswerToSymbols};
 
+use crate::symbol_lines::symbols_of;
 use aces_files::failure::planning_failure;
 use aces_files::loading::{board_of, load_firmware_and};
 use aces_files::telling::print;
 use aces_firmwares::reading::firmware_of;
 use aces_reports::{Done, Failure};
-use aces_symbols::symbols_of;
 use base_outside::{Files, Sink};
 use plan_model::Policy;
 use std::alloc::Global;

@@ -15,7 +15,7 @@ use Rattle.ir_model.specs.State.{SourceEnd, start}
 use Rattle.ir_generator.specs.Made.{made}
 use Rattle.ir_generator.specs.Taped.{taped}
 use Rattle.plan_model.specs.Crossing.{crossing_sites}
-use Rattle.aces_printed_runs.specs.PrintedRuns.{begin}
+use Rattle.aces_compiler.specs.PrintedRuns.{begin}
 use Rattle.ir_output.specs.SourceRuns.{end_line}
 use Rattle.aces_selftest.specs.declared.machines.MachineCount.{MachineCount}
 use Rattle.aces_selftest.specs.Counts.{IsSourceCount, IsMachineCount}

@@ -29,7 +29,7 @@ use Rattle.plan_firmwares.specs.Unplanned.{IsRefusedBy}
 use Rattle.plan_firmwares.specs.Laws.{RefusalsAndPlansExclude}
 use Rattle.ir_output.specs.SourceRuns.{ending_of, end_line}
 use Rattle.machine_output.specs.Runs.{fill}
-use Rattle.aces_printed_runs.specs.PrintedRuns.{begin}
+use Rattle.aces_compiler.specs.PrintedRuns.{begin}
 use Rattle.aces_selftest.specs.TakesSteps.{machine_ending_of}
 use Rattle.aces_selftest.proofs.Lengths.{has_value, Settled, settled}
 use Rattle.aces_selftest.specs.TestBoard.{test_board}

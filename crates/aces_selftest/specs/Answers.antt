@@ -27,7 +27,7 @@ use Rattle.plan_firmwares.specs.Unplanned.{IsRefusedBy}
 use Rattle.aces_compiler.specs.ByPolicy.{IsImageBy}
 use Rattle.ir_output.specs.SourceRuns.{ending_of, source_end, end_line}
 use Rattle.machine_output.specs.Runs.{end_of}
-use Rattle.aces_printed_runs.specs.PrintedRuns.{begin}
+use Rattle.aces_compiler.specs.PrintedRuns.{begin}
 use Rattle.aces_selftest.specs.TakesSteps.{TakesSteps, machine_ending_of}
 use Rattle.aces_files.specs.Outcomes.{Outcome, done, past_limit, no_room}
 use Rattle.aces_selftest.specs.TestBoard.{test_board}

@@ -10,7 +10,7 @@ use Rattle.need_laws.specs.Checked.{LeastSetsServe}
 use Rattle.plan_model.specs.declared.needs.Needs.{Needs}
 use Rattle.plan_compartments.specs.Analyses.{AreNeedsOf}
 use Rattle.refine_stack.specs.Paths.{SitesAreThere}
-use Rattle.aces_stack_laws.specs.StackLaws.{NeedsHaveFunctions}
+use Rattle.aces_stack.specs.StackLaws.{NeedsHaveFunctions}
 
 pub sites_there : (p : Program) (w : PlainFirmware) (closed : Bool) (n : Needs) → TypedOverNumbers → LeastSetsServe → NeedsHaveFunctions → p ≡ resolve w → IsTyped w → IsWithinLimits w
     → AreNeedsOf w closed n → SitesAreThere p n

@@ -6,10 +6,10 @@ ghost use Rattle.plan_model.specs.Boards.{IsBoard};
 ghost use Rattle.plan_model.specs.CompileLimits.{KeepsLimits};
 ghost use Rattle.plan_firmwares.specs.Analysed.{IsAnalysisOf};
 ghost use Rattle.aces_stack.specs.Limited.{IsLimited};
-ghost use Rattle.aces_stack_laws.specs.Bounded.{IsStackBy};
+ghost use Rattle.aces_stack.specs.Bounded.{IsStackBy};
 
-use aces_stack_laws::functions_are_there;
-use aces_stack_laws::laws::bounded_images;
+use crate::image_laws::bounded_images;
+use crate::run_laws::functions_are_there;
 use ir_laws::typing::places;
 use ir_model::checked::Checked;
 use need_laws::least_sets;

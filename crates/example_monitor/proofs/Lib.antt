@@ -7,3 +7,4 @@ mod Lengths
 mod Pages
 mod Handled
 mod Joined
+mod Obeys

@@ -11,3 +11,4 @@ pub mod Lengths
 pub mod Pages
 pub mod Handled
 pub mod Joined
+pub mod LentImageLaws

@@ -3,6 +3,7 @@
 #![tactic(auto)]
 
 pub mod handlers;
+pub mod laws;
 pub mod outcomes;
 pub mod page;
 pub mod steps;

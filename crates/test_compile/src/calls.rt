@@ -1,12 +1,12 @@
 //! What the cases call: the program, and calls beside its commands.
 
 use crate::cuts::cuts;
+use crate::divided::{divide, replace};
 use crate::memory::memory;
 use aces_cli::aces;
 use anyhow::Error;
 use base_outside::{MemFiles, MemSink, Sink};
 use std::alloc::Global;
-use test_divided::{divide, replace};
 use test_files::{Program, patch, same};
 
 /// The calls.

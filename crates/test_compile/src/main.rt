@@ -5,6 +5,7 @@
 mod alike;
 mod calls;
 mod cuts;
+mod divided;
 mod memory;
 
 use anyhow::Result;

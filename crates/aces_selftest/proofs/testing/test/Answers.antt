@@ -3,7 +3,7 @@ use Rattle.ir_model.specs.Plain.{PlainFirmware, firmware_of}
 use Rattle.ir_generator.specs.Made.{made}
 use Rattle.ir_generator.specs.Taped.{taped}
 use Rattle.monitor_model.specs.declared.tables.Tables.{Tables}
-use Rattle.aces_printed_runs.specs.PrintedRuns.{begin}
+use Rattle.aces_compiler.specs.PrintedRuns.{begin}
 use Rattle.refine_model.specs.Refines.{step_limit, word_limit}
 use Rattle.aces_selftest.specs.Counts.{IsMachineCount}
 use Rattle.aces_selftest.specs.Answers.{words_of}

@@ -1,5 +1,0 @@
-use Rattle.aces_printed_runs.proofs.Alike.{runs_are_alike}
-use Rattle.aces_printed_runs.proofs.laws.runs_are_alike.Goals as goal
-
-pub returns : goal.returns
-returns c = runs_are_alike c.starts.ensures

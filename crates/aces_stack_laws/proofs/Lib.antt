@@ -1,6 +1,0 @@
-mod Whole
-mod Eighths
-mod Loans
-mod Frames
-mod Within
-mod There

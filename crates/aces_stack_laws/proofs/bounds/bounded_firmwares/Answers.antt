@@ -1,5 +1,0 @@
-use Rattle.aces_stack_laws.proofs.Within.{bounded_firmwares_are_refined}
-use Rattle.aces_stack_laws.proofs.bounds.bounded_firmwares.Goals as goal
-
-pub returns : goal.returns
-returns c = bounded_firmwares_are_refined c.bounded_runs.ensures

@@ -1,5 +1,0 @@
-use Rattle.aces_stack_laws.proofs.Within.{bounded_runs_stay_within}
-use Rattle.aces_stack_laws.proofs.bounds.bounded_runs.Goals as goal
-
-pub returns : goal.returns
-returns c = bounded_runs_stay_within c.values.ensures.sets

@@ -1,4 +1,0 @@
-pub mod Bounded
-pub mod ImageLaws
-pub mod Whole
-pub mod StackLaws
