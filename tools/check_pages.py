@@ -7,7 +7,7 @@ It looks at README.md, docs/*.md and the README.md of each crate. A finding is
 
 - a path, quoted or not, a page, a function or a type that a page names and that is not there. A path without its crate is looked for in the crates
   that the same paragraph or row of a table names, in the crate whose page it is, and in those of which the page names the folder `specs/`;
-- a quoted name with a layer's prefix, an underscore or a capital inside that stands nowhere in the repository's code;
+- a quoted name, or a quoted word by itself, that stands nowhere in the repository's code;
 - a name that a page says to be of a crate or of a file of definitions, which does not define it; and one with which a row of a table on a crate's
   page begins, that stands nowhere in the crate;
 - a file of definitions that its crate's page does not name;
@@ -38,8 +38,10 @@ PART = re.compile(r"\n\s*\n|\n(?=\|)")
 # Paths and pages, quoted or not; a build's folder `out` is none of the repository.
 PATH = re.compile(r"(?<![\w./-])(?:crates|docs|tools|examples)/(?!aces/out/)[\w./-]*\w")
 PAGE = re.compile(r"(?<![\w/])[A-Z]+\.md\b")
-# Names that are looked for in all code, as no other words look like them.
-NAME = re.compile(r"\b(?=\w*(?:_|[a-z][A-Z]))[A-Za-z]\w*")
+# Names that are looked for in all code: with an underscore or a capital inside, as no other words look like them; and a quoted word by itself.
+NAME = re.compile(r"\b(?=\w*(?:_|[a-z][A-Z]))[A-Za-z]\w*|\A[A-Za-z]\w+\Z")
+# Words that pages quote and that stand in no file here: tools of the field and boards, and names that no definition has.
+OUTSIDE = {"netduino2", "vmstat", "Holds", "Says"}
 # Whose names are said to be: `a`, `b` of `crate`; `a` (`crate`); `a` of `crate/File`, `a` (`crate/File`); (`crate/File`, `a`, `b`); (`crate`: `a`, `b`).
 OWNERS = (
     re.compile(r"(?P<names>(?:`\w+`(?:,| and) )*`\w\w+`) of `(?P<crate>\w+)`"),
@@ -65,7 +67,7 @@ LAYER_ROW = re.compile(r"^\| `?(\w+)`? \| (?:\d+, )?(\d+) \|", re.M)
 ALL_CRATES = re.compile(r"\b[Aa]ll (\d+) crates\b")
 # How many lines a definition reaches: `name` N, `File.antt name`) has N.
 REACHED = re.compile(r"`(?:([\w/]+\.antt) )?(\w+)`\)?(?: has)? ([\d,]+\d)")
-CASES = re.compile(r"`(test_\w+)`: ([\d,]+) cases|([\d,]+) cases that are data(?:: it is run [^`]*| )?\(`(test_\w+)`\)")
+CASES = re.compile(r"`(test_\w+)`(?:: |[^`.]* by )([\d,]+) cases|([\d,]+) cases that are data \(`(test_\w+)`\)")
 
 
 class Crate(NamedTuple):
@@ -171,7 +173,7 @@ def rows(name: str, crate: Crate) -> Iterator[str]:
 
 def cases(page: str) -> Iterator[str]:
     """Numbers of cases that are not those which the program prints."""
-    for found in CASES.finditer(text_of(page)):
+    for found in CASES.finditer(" ".join(text_of(page).split())):
         crate, number = (found[1], found[2]) if found[1] else (found[4], found[3])
         stdout = f"crates/{crate}/stdout"
         if os.path.exists(stdout) and number.replace(",", "") not in re.findall(r"\d+", text_of(stdout)):
@@ -260,8 +262,8 @@ def unknown(page: str, crates: dict[str, Crate], words: set[bytes]) -> Iterator[
     for part in parts(page, crates):
         yield from (f"{page}: no file {word}" for word in part.quoted if not is_there(word, part.near, crates))
         yield from (f"{page}: {word} is not declared" for word in part.quoted if not is_declared(word, part.near, crates))
-        names = (name for word in part.quoted if not word.startswith("Rattle.") for name in NAME.findall(word))
-        yield from (f"{page}: {name} is in no code" for name in names if name.encode() not in words)
+        names = {name for word in part.quoted if not word.startswith("Rattle.") for name in NAME.findall(word)} - OUTSIDE
+        yield from (f"{page}: {name} is in no code" for name in sorted(names) if name.encode() not in words)
 
 
 def findings() -> Iterator[str]:
