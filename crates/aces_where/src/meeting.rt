@@ -64,7 +64,11 @@ fn met_by(operation: &Operation<'_>, registers: &[Value]) -> Option<Value>
 }
 
 /// What the instruction at which a frame with these registers stands meets.
-pub(crate) fn met(program: &Program<'_>, spot: FramePlace, registers: &[Value]) -> Option<Value>
+pub(crate) fn met_value(
+    program: &Program<'_>,
+    spot: FramePlace,
+    registers: &[Value],
+) -> Option<Value>
     ensures { option_map value_of result ≡ spots.met (program_of program.now) spot (map value_of registers.now) }
 {
     match here(program, spot.func, spot.block, spot.place) {

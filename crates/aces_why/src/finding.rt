@@ -12,7 +12,7 @@ ghost use Rattle.aces_why.specs.Reached.{AreReached};
 ghost use Rattle.needs.specs.Bounds.{HasSmallNumbers};
 ghost use Rattle.aces_why.specs.Findings as found;
 
-use crate::reached;
+use crate::reached_flags;
 use crate::subject::Findings;
 use base_lists::ListVec;
 use ir_laws::limits::counts;
@@ -107,7 +107,7 @@ fn called(alloc: Global, main: usize, needs: &[FuncNeed]) -> Result<Vec<bool>, A
     ensures { IfOk result (λ flags. AreReached (found.callees_of needs.now) main flags.items) }
 {
     let callees = callees(alloc, needs)?;
-    reached(alloc, callees.as_slice(), main)
+    reached_flags(alloc, callees.as_slice(), main)
 }
 
 /// The blocks to which the end of a block may go.
@@ -137,7 +137,7 @@ fn entered(alloc: Global, blocks: &[Sequence]) -> Result<Vec<bool>, AllocError>
     ensures { IfOk result (λ flags. (ks : List Known) → AreReached (found.exits_of (map (sequence_of ks) blocks.now)) 0 flags.items) }
 {
     let exits = all_exits(alloc, blocks)?;
-    reached(alloc, exits.as_slice(), 0)
+    reached_flags(alloc, exits.as_slice(), 0)
 }
 
 /// For each function and each of its blocks, whether that is the first or is reached from there.

@@ -210,7 +210,7 @@ fn is_told(name: &str, bytes: Option<&[u8]>, held: &[Held]) -> Result<bool> {
     let mut told = false;
     for fact in held {
         if fact.name.as_str() == name {
-            ensure!(holds(bytes, &fact.wanted), "{name} is not as wanted");
+            ensure!(is_wanted(bytes, &fact.wanted), "{name} is not as wanted");
             told = true;
         }
     }
@@ -225,7 +225,7 @@ fn is_same(bytes: Option<&[u8]>, old: &Option<Vec<u8>>) -> bool {
     }
 }
 
-fn holds(bytes: Option<&[u8]>, wanted: &Wanted) -> bool {
+fn is_wanted(bytes: Option<&[u8]>, wanted: &Wanted) -> bool {
     let Some(bytes) = bytes else {
         return false;
     };

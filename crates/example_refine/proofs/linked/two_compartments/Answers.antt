@@ -2,7 +2,7 @@ use Rattle.example_refine.proofs.Applied.{refines_by_law}
 use Rattle.example_refine.proofs.LeastNeeds.{are_its_needs}
 use Rattle.example_refine.proofs.Promises.{linked}
 use Rattle.example_refine.proofs.Source.{is_its_source}
-use Rattle.example_refine.proofs.linked.lent.Goals as goal
+use Rattle.example_refine.proofs.linked.two_compartments.Goals as goal
 
 pub returns-clause-source : goal.returns-clause-source
 returns-clause-source c = is_its_source

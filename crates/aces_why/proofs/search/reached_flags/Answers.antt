@@ -3,7 +3,7 @@ use Rattle.std.specs.Prelude.{◌⊎◌, Contains}
 use Rattle.std.proofs.lemmas.List.{length-replicate, get_or_default}
 use Rattle.aces_why.specs.Marks.{AreMarks}
 use Rattle.aces_why.proofs.Marking.{searched_first, searched_more, all_searched, marks_none}
-use Rattle.aces_why.proofs.search.reached.Goals as goal
+use Rattle.aces_why.proofs.search.reached_flags.Goals as goal
 
 pub mark-requires : goal.mark-requires
 mark-requires c = subst (λ fs. AreMarks fs c.new-found.result.items) (sym (c.in_ok-flags.ensures.items_if_clones_equal (λ y h. h))) (subst (AreMarks (replicate (length c.args.next.now) false)) (sym c.new-found.ensures.items) (marks_none (length c.args.next.now)))

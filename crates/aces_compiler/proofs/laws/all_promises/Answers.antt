@@ -1,4 +1,4 @@
-use Rattle.aces_compiler.proofs.laws.promised.Goals as goal
+use Rattle.aces_compiler.proofs.laws.all_promises.Goals as goal
 
 pub returns : goal.returns
 returns c = record {
