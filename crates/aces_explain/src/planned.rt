@@ -44,7 +44,7 @@ fn done_by(refusal: PlanningRefusal) -> Result<Done, AllocError>
 }
 
 /// The lines on why a firmware has no plan for a board.
-fn unplanned(
+fn refusal_output(
     alloc: Global,
     firmware: &Checked,
     analysis: Analysis<'_>,
@@ -88,7 +88,7 @@ fn on_board(
             lines: line_of_counts(alloc, firmware)?,
             done: Done::Completed,
         }),
-        Err(refusal) => unplanned(alloc, firmware, analysis, policy, board, refusal),
+        Err(refusal) => refusal_output(alloc, firmware, analysis, policy, board, refusal),
     }
 }
 

@@ -8,7 +8,7 @@ use Rattle.aces_files.specs.declared.telling.CommandOutput.{CommandOutput}
 use Rattle.aces_selftest.specs.Answers.{SelftestAnswer}
 use Rattle.aces_selftest.specs.Tested.{IsTold}
 use Rattle.aces_selftest.proofs.Ran.{answered}
-use Rattle.aces_selftest.proofs.selftesting.compared.Goals as goal
+use Rattle.aces_selftest.proofs.selftesting.image_output.Goals as goal
 
 pub returns : goal.returns
 returns c =

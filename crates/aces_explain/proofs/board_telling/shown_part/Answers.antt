@@ -1,6 +1,6 @@
 use Rattle.std.proofs.Common.{take, arith, sym, ap, ◌∙◌}
 use Rattle.std.proofs.lemmas.List.{take_all}
-use Rattle.aces_explain.proofs.board_telling.shown.Goals as goal
+use Rattle.aces_explain.proofs.board_telling.shown_part.Goals as goal
 
 pub returns-then-line-le-SHOWN_LIMIT : goal.returns-then-line-le-SHOWN_LIMIT
 returns-then-line-le-SHOWN_LIMIT c =

@@ -8,7 +8,7 @@ use Rattle.aces_firmwares.specs.Firmwares.{IsNoFirmware}
 use Rattle.aces_files.specs.Loads.{IsContentFailure, IsPlanningFailure}
 use Rattle.aces_files.proofs.Ends.{content_refused, refusal_also}
 use Rattle.aces_firmwares.proofs.Unplanned.{planning_refused}
-use Rattle.aces_cli.proofs.compile.compiled.Goals as goal
+use Rattle.aces_cli.proofs.compile.image_by_bytes.Goals as goal
 
 pub returns-in_err-checked-clause-err : goal.returns-in_err-checked-clause-err
 returns-in_err-checked-clause-err c =

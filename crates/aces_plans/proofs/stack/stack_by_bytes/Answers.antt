@@ -9,7 +9,7 @@ use Rattle.aces_firmwares.specs.Firmwares.{IsNoFirmware}
 use Rattle.aces_files.specs.Loads.{IsContentFailure, IsPlanningFailure}
 use Rattle.aces_files.proofs.Ends.{content_refused}
 use Rattle.aces_plans.proofs.Planning.{limits_refused, answer_told}
-use Rattle.aces_plans.proofs.stack.bounded.Goals as goal
+use Rattle.aces_plans.proofs.stack.stack_by_bytes.Goals as goal
 
 pub returns-in_err-checked-clause-err : goal.returns-in_err-checked-clause-err
 returns-in_err-checked-clause-err c =

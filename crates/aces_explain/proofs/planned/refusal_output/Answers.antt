@@ -1,7 +1,7 @@
 use Rattle.std.proofs.Common.{sym, subst}
 use Rattle.ir_model.specs.Plain.{firmware_of}
 use Rattle.aces_explain.specs.Plans.{IsPlanTold, unplanned}
-use Rattle.aces_explain.proofs.planned.unplanned.Goals as goal
+use Rattle.aces_explain.proofs.planned.refusal_output.Goals as goal
 
 pub returns : goal.returns
 returns c =

@@ -1,7 +1,7 @@
 use Rattle.std.proofs.Common.{refl}
 use Rattle.plan_model.proofs.Numbers.{mapped_more as mapped_next}
 use Rattle.aces_explain.specs.Blocks.{numbered_at}
-use Rattle.aces_explain.proofs.flash.numbered.Goals as goal
+use Rattle.aces_explain.proofs.flash.numbered_blocks.Goals as goal
 
 pub loop-number-preserved : goal.loop-number-preserved
 loop-number-preserved c =
