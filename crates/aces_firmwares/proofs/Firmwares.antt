@@ -44,7 +44,7 @@ check_refused w bytes name fault e t h =
 abbrev functions : List FileDecl → List Func
 functions fs = flat_map (λ (f : FileDecl). f.funcs) fs
 
--- a firmware has as many functions as the code has them
+-- files have as many functions in the code's form as in the definition's
 pub same_count : (fs : List FileDecl) → length (flat_map (λ (f : PlainFile). f.funcs) (map file_of fs)) ≡ length (functions fs)
 same_count [] = refl
 same_count (f ∷ fs) =
