@@ -96,7 +96,7 @@ fn add_held<'a>(
 ) -> Result<()> {
     for name in names {
         let name = name.as_str();
-        let bytes = copied(alloc, files.held(name))?;
+        let bytes = copy_of(alloc, files.held(name))?;
         known.push(Before { name, bytes })?;
     }
     Ok(())
@@ -162,7 +162,7 @@ fn compare_printed(call: &Call, status: u8, out: &[u8], err: &[u8]) -> Result<()
     Ok(())
 }
 
-fn copied(alloc: Global, bytes: Option<&[u8]>) -> Result<Option<Vec<u8>>> {
+fn copy_of(alloc: Global, bytes: Option<&[u8]>) -> Result<Option<Vec<u8>>> {
     match bytes {
         Some(bytes) => Ok(Some(bytes.to_vec(alloc)?)),
         None => Ok(None),
@@ -201,7 +201,7 @@ fn compare_file(
         return Ok(());
     }
     ensure!(told, "{name} has changed");
-    before.bytes = copied(alloc, bytes)?;
+    before.bytes = copy_of(alloc, bytes)?;
     Ok(())
 }
 

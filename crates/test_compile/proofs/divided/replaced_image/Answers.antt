@@ -1,4 +1,4 @@
-use Rattle.test_compile.proofs.divided.replaced.Goals as goal
+use Rattle.test_compile.proofs.divided.replaced_image.Goals as goal
 
 pub replaced_by-requires-clause-program : goal.replaced_by-requires-clause-program
 replaced_by-requires-clause-program c = c.in_ok-analysis.ensures.exact.program
