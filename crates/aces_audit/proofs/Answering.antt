@@ -14,7 +14,7 @@ yes_or_no : (a : Audit) → (answer_status a ≡ 0) ⊎ (answer_status a ≡ 8)
 yes_or_no (Yes compartments sites) = inl refl
 yes_or_no (No check at) = inr refl
 
--- whichever text is printed
+-- these hold whichever text is printed
 module _ (text : Image → Audit → List ℕ) (image bytes : List ℕ) where
   pub image_writes_nothing : (o : Outcome) → ImageAnswer text image bytes o → o.written ≡ None
   image_writes_nothing o (no_image f h) = refl

@@ -20,7 +20,7 @@ pub data ImageAnswer (text : Image → Audit → List ℕ) (image : List ℕ) (b
   no_image : (f : Fault) → IsNoImage bytes f → ImageAnswer text image bytes (refused image f)
   told : (i : Image) (a : Audit) → IsText i bytes → IsAudit i a → IsGuardedWhereYes i a → ImageAnswer text image bytes (done (answer_status a) (text i a) None)
 
--- what `audit` prints of an image that is answered so
+-- what `audit` prints of an image with this answer
 abbrev pub audit_text : Image → Audit → List ℕ
 audit_text i a = answer_line a
 

@@ -12,11 +12,11 @@ use Rattle.aces_audit.specs.Answers.{ImageAnswer, audit_text, tables_text}
 use Rattle.aces_audit.specs.declared.asking.Asked.{Asked}
 use Rattle.aces_audit.specs.declared.asking.Asked.TheVariants.{Answer, Tables}
 
--- an outcome that tells so of an image, whichever bytes it is read from and whatever they are called
+-- an outcome that tells this text of an image, whichever bytes it is read from and whatever they are called
 abbrev pub IsToldOf : (text : Image → Audit → List ℕ) → Image → Outcome → Type 0
 IsToldOf text i o = (image bytes : List ℕ) → IsText i bytes → ImageAnswer text image bytes o
 
--- what is printed of an image that is answered so
+-- what is printed of an image with this answer, by what was asked
 abbrev pub text_of : Asked → Image → Audit → List ℕ
 text_of Answer = audit_text
 text_of Tables = tables_text

@@ -25,6 +25,6 @@ abbrev pub IsGuardedWhereYes : Image → Audit → Type 0
 IsGuardedWhereYes i (Yes compartments sites) = IsGuarded i (own_tables i)
 IsGuardedWhereYes i (No check at) = Unit {0}
 
--- so is every sound image
+-- every sound image is guarded
 abbrev pub SoundImagesAreGuarded : Type 0
 SoundImagesAreGuarded = OfSoundImages monitor_code IsGuarded

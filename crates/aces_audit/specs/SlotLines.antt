@@ -33,7 +33,7 @@ lies_in g w = is_inside w.base w.size (base_of g) (size_of g)
 abbrev pub window_name : Window → List ℕ
 window_name w = w.name
 
--- the names of all that do, in the order of the image
+-- the names of all windows in the range, in the order of the image
 abbrev pub names_in : List Window → Region → List (List ℕ)
 names_in ws g = map window_name (filter (lies_in g) ws)
 

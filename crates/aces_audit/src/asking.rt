@@ -92,7 +92,7 @@ fn asked_output(alloc: Global, image: &Image, asked: Asked) -> Result<CommandOut
 }
 
 /// What is asked of an image, by its bytes, which stand behind its name. No file is touched.
-fn answered<'a>(
+fn output_by_bytes<'a>(
     alloc: Global,
     image: &'a str,
     bytes: &[u8],
@@ -117,6 +117,6 @@ pub(crate) fn print_asked<'a, F: Files, O: Sink>(
     ensures { CarriesOut (AnswerToAsked asked image.now) F.Files files.old files.new (request_of asked image.now) (sink O.Sink out.old) (sink O.Sink out.new) result }
 {
     let bytes = load(alloc, files, image)?;
-    let told = answered(alloc, image, bytes.as_slice(), asked)?;
+    let told = output_by_bytes(alloc, image, bytes.as_slice(), asked)?;
     print(told.lines.as_slice(), told.done, out)
 }

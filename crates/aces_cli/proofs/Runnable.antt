@@ -23,7 +23,7 @@ use Rattle.aces_cli.specs.Complete.{IsRunnable}
 pub is_tape : (windows : List Window) (t : List ℕ) (f : Fault) → tapes.first_fault t windows ≡ None → IsNoTape windows t f → ⊥
 is_tape windows t f h k = let wrong : None ≡ Some k.first = sym h ∙ k.found in cc
 
--- how runs end
+-- the ends of runs
 machine_ends : (e : End) → (machine.end_status e ≡ 0) ⊎ (machine.end_status e ≡ 7)
 machine_ends (Halt zero) = inl refl
 machine_ends (Halt (suc k)) = inr refl

@@ -41,7 +41,7 @@ module _ (unique : readers.TextsAreUnique) (faultless : readers.TextsAreFaultles
       let q : fault_of k.firmware ≡ None = subst (λ v. fault_of v ≡ None) (unique w k.firmware bytes h.is_text k.is_text) h.typed in
       absurd (let wrong : None ≡ Some (record { kind = kind; place = place }) = sym q ∙ k.found in cc)
 
--- how runs end
+-- the ends of runs
 source_ends : (e : Option SourceEnd) → (source_runs.end_status e ≡ 0) ⊎ (source_runs.end_status e ≡ 7)
 source_ends None = inl refl
 source_ends (Some Returned) = inl refl

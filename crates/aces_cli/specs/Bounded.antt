@@ -44,7 +44,7 @@ pub record StackIsEnough (held : Held) (firmware board : List ℕ) (policy : Pol
   pub answer : AnswerToStack firmware board policy (HoldsWithin held) (Exceeds held) outcome
   pub ended : outcome.status ≡ 0
 
--- the words ask to compile, and what the files held has such an answer: then such an image is held
+-- where the words ask to compile, and what the files held has an answer of `stack` with status 0, such an image is held
 abbrev pub FollowsBounded : (words : List (List ℕ)) → (old new : Held) → Type 0
 FollowsBounded words old new =
     (firmware board : List ℕ) (policy : Policy) (image : List ℕ) → Asks words (Compile firmware board policy image) →

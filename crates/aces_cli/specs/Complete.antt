@@ -1,4 +1,4 @@
--- Where a command does all that it was asked for, unless memory runs out: no call on the outside fails, and what its files hold is good.
+-- The premises by which a command does all that it was asked for, unless memory runs out: no call on the outside fails, and what its files hold is good.
 use Rattle.std.specs.Prelude.{◌≡◌, ℕ, ◌⊎◌, List, [], ◌∷◌, Some, None}
 use Rattle.base_outside.specs.Counts.{Stayed}
 use Rattle.machine_devices.specs.declared.image.Image.{Image}
@@ -32,7 +32,7 @@ abbrev pub AreThere : Held → List Origin → Type 0
 AreThere held [] = Unit {0}
 AreThere held (s ∷ more) = ((bytes : List ℕ) × (held s.name ≡ Some bytes)) × AreThere held more
 
--- and so is each one that the words name for reading
+-- each file that the words name for reading is there
 abbrev pub HasFiles : Held → (words : List (List ℕ)) → Type 0
 HasFiles held words = (r : Request) → Asks words r → AreThere held (origins r)
 
@@ -98,8 +98,9 @@ module _ (Has : Origin → List ℕ → Type 0) where
     explain_plan : (firmware board : List ℕ) (policy : Policy) (bytes text : List ℕ) → Has (firmware_origin firmware) bytes → Has (file_origin board) text →
         IsCompilable policy bytes text → IsGood (ExplainPlan firmware board policy)
 
--- the status says that all was done: 0, and where a run was asked for also 7, which says that it ended badly, or that a self-test differs, and
--- where a bound also 8, which says that there is none or that the stack is smaller; so where an image was to be checked, which says that it fails
+-- the status says that all was done: 0; where a run was asked for also 7, which says that it ended badly, or that a self-test differs; where a
+-- bound was asked for also 8, which says that there is none or that the stack is smaller; and where an image was to be checked also 8, which says
+-- that it fails
 abbrev pub IsDoneBy : Request → (status : ℕ) → Type 0
 IsDoneBy (Run image tape steps) status = (status ≡ 0) ⊎ (status ≡ 7)
 IsDoneBy (Bin image file) status = status ≡ 0
@@ -121,6 +122,6 @@ IsDoneBy (Why firmware) status = status ≡ 0
 IsDoneBy (Explain firmware) status = status ≡ 0
 IsDoneBy (ExplainPlan firmware board policy) status = status ≡ 0
 
--- a good request has no outcome but one that says so
+-- a good request has no outcome but one that says that all was done
 abbrev pub GoodRequestsAreDone : Type 0
 GoodRequestsAreDone = (held : Held) (r : Request) (o : Outcome) → IsGood (HoldsWithin held) r → Answer r (HoldsWithin held) (Exceeds held) o → IsDoneBy r o.status

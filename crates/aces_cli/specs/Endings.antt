@@ -35,7 +35,7 @@ pub record IsPartly (Has : Origin → List ℕ → Type 0) (Exceeds : Origin →
   pub part : IsBrokenOff s.old s.new outcome
 
 -- a file that the words name for reading was not read: it is the one that the last of these calls was to read, which failed, and the line
--- says so
+-- tells it
 pub record TellsUnread (calls : List Call) (words : List (List ℕ)) (s : Seen) : Type 0 where
   pub request : Request
   pub asks : Asks words request
@@ -53,7 +53,7 @@ pub record IsByCalls (calls : List Call) (words : List (List ℕ)) (s : Seen) (s
   pub partly : status ≡ 5 → IsPartly (WasRead calls) (WasTooLarge calls) words s
   pub printed_in_part : status ≡ 6 → (s.new.out ≡ s.old.out) ⊎ IsPartly (WasRead calls) (WasTooLarge calls) words s
 
--- the file that the words name for writing was not written, and the line says so
+-- the file that the words name for writing was not written, and the line tells it
 pub record TellsUnwritten (words : List (List ℕ)) (s : Seen) : Type 0 where
   pub request : Request
   pub asks : Asks words request

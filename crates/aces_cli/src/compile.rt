@@ -36,7 +36,7 @@ pub(crate) fn compile<'a, F: Files>(
     ensures { (out : SinkState) → CarriesOut (AnswerToCompile firmware.now board.now policy image.now) F.Files files.old files.new (Compile firmware.now board.now policy image.now) out out result }
 {
     let both = load_firmware_and(alloc, files, firmware, board)?;
-    let compiled = compiled(
+    let compiled = image_by_bytes(
         alloc,
         firmware,
         both.first.as_slice(),
@@ -51,7 +51,7 @@ pub(crate) fn compile<'a, F: Files>(
 }
 
 /// The bytes of the image, by the bytes of both files, each behind its name. No file is touched.
-fn compiled<'a>(
+fn image_by_bytes<'a>(
     alloc: Global,
     firmware: &'a str,
     bytes: &[u8],

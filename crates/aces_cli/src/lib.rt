@@ -41,9 +41,9 @@ pub fn aces<F: Files, O: Sink, E: Sink>(
     ensures usage { (result ≡ 2) ↔ IsUsage (map string_bytes words.now) }
 
     // The call did what the words ask, of the contents where these are told, and else of the bytes that its own calls gave. Where a file was
-    // not read, the last of its calls was to read it, and failed. So the
-    // status is 3 exactly where a plan was asked for, what it is made of is read, no limit is passed, and the board denies an address that
-    // the firmware reaches, or a memory of it has no room (`PlanAnswer`, and `IsPlanTold` of `explain`).
+    // not read, the last of its calls was to read it, and failed. So the status is 3 exactly where a plan was asked for, what it is made of
+    // is read, no limit is passed, and the board denies an address that the firmware reaches, or a memory of it has no room (`PlanAnswer`,
+    // and `IsPlanTold` of `explain`).
     ensures answer { IsTrue F.told → IsPlain result →
         IsAnswered (HoldsWithin (F.held files.old)) (Exceeds (F.held files.old)) (map string_bytes words.now)
         (seen F.Files O.Sink E.Sink files.old files.new out.old out.new err.old err.new) result }
@@ -63,7 +63,7 @@ pub fn aces<F: Files, O: Sink, E: Sink>(
         IsPartly (HoldsWithin (F.held files.old)) (Exceeds (F.held files.old)) (map string_bytes words.now)
         (seen F.Files O.Sink E.Sink files.old files.new out.old out.new err.old err.new) }
 
-    // After want of memory nothing was printed, but of a run of the source the first lines.
+    // After want of memory nothing was printed but the first lines of a run of the source.
     ensures memory { result ≡ 6 → TellsOutOfMemory (map string_bytes words.now) (seen F.Files O.Sink E.Sink files.old files.new out.old out.new err.old err.new) }
     ensures printed_in_part { IsTrue F.told → result ≡ 6 → (sink O.Sink out.new ≡ sink O.Sink out.old)
         ⊎ IsPartly (HoldsWithin (F.held files.old)) (Exceeds (F.held files.old)) (map string_bytes words.now)

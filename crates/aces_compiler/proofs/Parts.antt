@@ -1,4 +1,4 @@
--- How groups, needs and plan of a firmware hang together.
+-- Facts on the groups, the needs and the plan of a firmware.
 use Rattle.std.proofs.Common.{◌≡◌, ℕ, List, length, ap, sym, subst, ◌∙◌}
 use Rattle.std.proofs.lemmas.List.{length-map}
 use Rattle.std.proofs.lemmas.Slice.Zip.{AllZip-long}
@@ -48,7 +48,7 @@ use Rattle.ir_laws.proofs.Resolved.{as_many}
 pub routines : (p : programs.Program) (w : PlainFirmware) → program_of p ≡ resolve w → length p.funcs ≡ length (resolve w).funcs
 routines p w e = sym (length-map p.funcs (routine_of (known_of p))) ∙ ap (λ (q : Program). length q.funcs) e
 
--- by the answers of a callback
+-- the compartments by the answers of a callback are compartments of the program
 pub answered_compartments : (w : PlainFirmware) (n : Needs) (answers : FuncFacts → ℕ → Type 0) (fs : List FuncFacts) (g : Groups) → length fs ≡ length (funcs_of w)
     → (groups : List ℕ) × AreAnswers answers fs groups × (g ≡ compartments groups) → AreCompartments (resolve w) g
 answered_compartments w n answers fs g e (groups, h, is) =
@@ -56,7 +56,7 @@ answered_compartments w n answers fs g e (groups, h, is) =
 
 -- ---- a firmware that is planned
 
--- in the compartments of its own graph
+-- a firmware that is planned is planned in the compartments of its own graph
 pub in_own_groups : (p : Program) (n : Needs) (b : Board) (g : Groups) (x : PlannedFirmware) → IsPlannedFor p n g b x → IsPlannedFor p n x.graph.groups b x
 in_own_groups p n b g x k = subst (λ (y : Groups). IsPlannedFor p n y b x) (sym k.groups) k
 

@@ -14,5 +14,5 @@ pub record IsImageBy (policy : Policy) (w : PlainFirmware) (b : Board) (i : Imag
   pub needs : Needs
   pub are_needs : AreNeedsOf w b.closed needs
   pub image : IsImageFor w needs b (division policy w needs) i
-  -- whichever the board's kind, they are those in which `source` runs the firmware
+  -- the compartments are those in which `source` runs the firmware, whichever the board's kind
   pub as_source : (compartments : List ℕ) → AreCompartmentsBy policy w compartments → (division policy w needs).of ≡ compartments

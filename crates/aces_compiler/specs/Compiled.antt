@@ -56,20 +56,20 @@ pub record IsImageFor (w : PlainFirmware) (n : Needs) (b : Board) (g : Groups) (
   pub isolated : EachRun i (IsIsolated w n graph b i (planned_tables w n graph b))
   -- no store for a compartment leaves its permission, and on a closed board no load
   pub confined : Confined i (planned_tables w n graph b)
-  -- all of this whatever code its compartments execute: with any bytes in flash behind its tables, where all code of compartments stands
+  -- all of this holds whatever code its compartments execute: with any bytes in flash behind its tables, where all code of compartments stands
   pub moves_with_other_code : WithOtherCode TellsWhoRuns i (planned_tables w n graph b)
   pub isolated_with_other_code : WithOtherCode (λ (j : Image) (t : Tables). EachRun j (IsIsolated w n graph b j t)) i (planned_tables w n graph b)
   pub confined_with_other_code : WithOtherCode Confined i (planned_tables w n graph b)
-  -- nor is any byte that a compartment loads or stores, on either kind of board, in a range that the board denies to all
+  -- no byte that a compartment loads or stores, on either kind of board, is in a range that the board denies to all
   pub denied : WithOtherCode (λ (j : Image) (t : Tables). EachRun j (λ (first : State). NoneIsDenied j t first b.denied)) i (planned_tables w n graph b)
   -- that permission holds bytes of the objects that the compartment may write, of those that it may read, and padding
   pub permissions : SlotsArePermitted w n graph b
-  -- which lies in the blocks of the compartment's own data regions; and of lent locals it has those that its functions write
+  -- that permission lies in the blocks of the compartment's own data regions; and of lent locals it has those that its functions write
   pub slots : SlotsAreOwn w n graph b
   pub masks : MasksAreNeeded w n graph b
-  -- what a compartment may write its functions need, or joins have exposed it
+  -- each object that a compartment may write is one that its functions need, or one that joins have exposed
   pub needed : IsBoundedByNeeds w n graph b
-  -- and what a run of the source stores, accesses and calls, and on a closed board loads, is permitted
+  -- what a run of the source stores, accesses and calls, and on a closed board loads, is permitted
   pub policy : RunsStayInPolicy w n graph
   -- the monitor: its handlers keep their law, with the stub by which calls return at some address; start-up leads to `main`; and the
   -- invariant holds whenever a compartment acts
@@ -83,9 +83,9 @@ pub record IsImageFor (w : PlainFirmware) (n : Needs) (b : Board) (g : Groups) (
   -- where no data region has a byte of the guard below the stack, it is never wrong, only stopped, whether the source stays within its stack
   -- limit or not: at each step its events are the first of the source's, and it ends where the source does, or for want of stack
   pub never_wrong : IsStackGuarded w n graph b → RunsAreNeverWrong w g i
-  -- the stack is guarded so where the board asks for it lowest in RAM, and where no other block of RAM is larger
+  -- the stack is guarded where the board asks for it lowest in RAM, and where no other block of RAM is larger
   pub guarded : (b.lowest ≡ Stack) ⊎ IsStackLargest (resolve w) graph b → IsStackGuarded w n graph b
-  -- and within that limit what `run` prints of it are the lines that `source` prints in these compartments
+  -- where the source meets no fault and stays within its stack limit, `run` prints of the image the lines that `source` prints in these compartments
   pub alike : RunsAreAlike w n g b.stack (initial_word_count (planned_tables w n graph b)) i
 
 -- the compartments of a firmware by the answers that a callback gives for its functions
@@ -94,7 +94,7 @@ pub record AreGroupsBy (w : PlainFirmware) (n : Needs) (answers : FuncFacts → 
   pub answered : AreAnswers answers (facts w n) groups
   pub are : g ≡ compartments groups
 
--- the image by these answers
+-- the image in the compartments by these answers
 pub record IsCompiled (w : PlainFirmware) (n : Needs) (b : Board) (answers : FuncFacts → ℕ → Type 0) (i : Image) : Type 0 where
   pub groups : Groups
   pub by_answers : AreGroupsBy w n answers groups

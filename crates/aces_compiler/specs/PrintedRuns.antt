@@ -26,12 +26,12 @@ pub record IsAlike (w : PlainFirmware) (compartments : List ℕ) (words : ℕ) (
   pub lines : machine.run_lines i steps (begin i queues) ≡ source.source_lines w compartments queues n
   pub status : machine.end_status (machine.end_of i steps (begin i queues)) ≡ source.source_status w compartments queues n
 
--- wherever the source run, in these compartments, meets no fault and stays within the stack's limit
+-- the runs of both are alike wherever the source run, in these compartments, meets no fault and stays within the stack's limit
 abbrev pub RunsAreAlike : PlainFirmware → Needs → Groups → (stack words : ℕ) → Image → Type 0
 RunsAreAlike w needs groups stack words i =
     (queues : List (List ℕ)) (n : ℕ) → length queues ≡ length (windows_of w) → IsGood (resolve w) needs groups stack queues n → IsAlike w groups.of words i queues n
 
--- of every image that obeys the rules, has the firmware's windows and refines it: the statement of a law
+-- the runs of every image that obeys the rules, has the firmware's windows and refines it are alike: the statement of a law
 abbrev pub RefiningImagesAreAlike : Type 0
 RefiningImagesAreAlike =
     (w : PlainFirmware) (needs : Needs) (groups : Groups) (stack words : ℕ) (i : Image)

@@ -63,7 +63,7 @@ IsGroupsRefusal w n b g c code (Refused r) = IsPlanningRefusal (resolve w) n g b
 IsGroupsRefusal w n b g c code Compartment = IsBeyond w n b g c
 IsGroupsRefusal w n b g c code Length = IsTooLong w n b g c code
 
--- in the compartments by the answers that a callback gives
+-- the image with other code in a compartment, where the compartments are those by the answers that a callback gives
 pub record IsCompiledWithCode (w : PlainFirmware) (n : Needs) (b : Board) (answers : FuncFacts → ℕ → Type 0) (c : ℕ) (code : List ℕ) (i : Image) : Type 0 where
   pub groups : Groups
   pub by_answers : AreGroupsBy w n answers groups

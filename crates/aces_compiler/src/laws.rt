@@ -15,7 +15,7 @@ use image_runs::stays::{invariant, isolated, law, planned_runs, slots_are_own, s
 use need_laws::least_sets;
 
 /// All that is promised of the image of each firmware that is planned for a board.
-pub(crate) fn promised()
+pub(crate) fn all_promises()
     ensures { Promises }
 {
     least_sets();

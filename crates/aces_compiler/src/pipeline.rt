@@ -16,7 +16,7 @@ ghost use Rattle.image_promises.specs.Planned.{planned_image};
 ghost use Rattle.aces_compiler.specs.ByPolicy.{IsImageBy};
 ghost use Rattle.aces_compiler.specs.Compiled.{IsImageFor};
 
-use crate::laws::promised;
+use crate::laws::all_promises;
 use image_linker::link;
 use ir_model::checked::Checked;
 use machine_devices::image::Image;
@@ -83,7 +83,7 @@ fn promised_image(
     ensures { IfOk result (IsImageFor (firmware_of firmware.now) analysis.now.needs board.now planned.now.graph.groups) }
 {
     firmware.firmware();
-    promised();
+    all_promises();
     let image = image_of_plan(alloc, firmware, analysis, planned, board)?;
     Ok(image)
 }

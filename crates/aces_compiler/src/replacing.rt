@@ -15,7 +15,7 @@ ghost use Rattle.image_runs.specs.OtherCode.{with_flash};
 ghost use Rattle.aces_compiler.specs.WithCode.{IsImageWithCode, IsCompiledWithCode, IsGroupsRefusal, IsCodeRefusal};
 
 use crate::compiling::compartments_of;
-use crate::laws::promised;
+use crate::laws::all_promises;
 use crate::pipeline::{image_of_plan, plan_of_groups};
 use base_lists::ListVec;
 use image_linker::put_bytes;
@@ -109,7 +109,7 @@ fn groups_with_code(
     ensures refused { IfErr result (IsGroupsRefusal (firmware_of firmware.now) analysis.now.needs board.now groups compartment code.now) }
 {
     firmware.firmware();
-    promised();
+    all_promises();
     let made = match plan_of_groups(alloc, firmware, analysis, groups, board) {
         Ok(made) => made,
         Err(PlanningRefusal::NoMemory) => return Err(CodeRefusal::NoMemory),

@@ -29,7 +29,7 @@ more_at (b ∷ bs) zero l p f = lines_of-feed b bs p
 more_at (b ∷ bs) (suc k) l p f =
     lines_of-other b bs (f 0 (omega arith)) ∙ ap (before_first b) (more_at bs k (omega arith) p (λ i h. f (suc i) (omega arith)))
 
--- and one without
+-- a text without line feeds
 last_at : (bs : List ℕ) → ((i : ℕ) → i < length bs → nat_eq (get_or bs i 0) 10 ≡ false) → lines_of bs ≡ bs ∷ []
 last_at [] f = lines_of-nil
 last_at (b ∷ bs) f = lines_of-other b bs (f 0 (omega arith)) ∙ ap (before_first b) (last_at bs (λ i h. f (suc i) (omega arith)))

@@ -18,7 +18,7 @@ block_text size text = codes "block " ++ decimal size ++ codes " for " ++ text +
 
 -- ---- RAM
 
--- of a block of globals their names, and how many of its bytes are used
+-- the names of the globals of a block, and how many of its bytes are used
 abbrev pub globals_text : PlainFirmware → (word : List ℕ) → (globals : List ℕ) → (bytes : ℕ) → List ℕ
 globals_text w word xs bytes = word ++ spaced (map (global_name w) xs) ++ codes ", " ++ decimal bytes ++ codes " bytes"
 
@@ -44,7 +44,7 @@ numbered_at sizes k = record { number = k; size = get_or sizes k 0 }
 abbrev pub numbered : (sizes : List ℕ) → List FlashBlock
 numbered sizes = map (numbered_at sizes) (numbers_below (length sizes))
 
--- in falling order of size
+-- the blocks in falling order of size
 abbrev pub falling_flash : List FlashBlock → List FlashBlock
 falling_flash bs = in_order (λ (a b : FlashBlock). nat_lt b.size a.size) bs
 

@@ -58,7 +58,7 @@ table_rule t =
     else if bytes_eq t (codes "deny") then codes "a name of firmware texts: a letter or _, then letters, digits, _ and ., at most 64 bytes, and no reserved word"
     else document_rule
 
--- by the table and the word of the path, if it has a point
+-- the rule of a further key, by the table and the word of its path, if that has a point
 abbrev pub extra_rule : Option (List ℕ × List ℕ) → List ℕ
 extra_rule None = document_rule
 extra_rule (Some x) = table_rule x.0

@@ -65,7 +65,7 @@ shown_line lines (Some k) = shown (get_or lines k []) ++ line_feed
 
 -- ---- all of it
 
--- by the lines of the text
+-- what is told, by the lines of the text
 abbrev pub told_in : (name : List ℕ) → (lines : List (List ℕ)) → BoardFault → List ℕ
 told_in name lines e =
     head_line name (place_of lines e) e ++ shown_line lines (place_of lines e) ++ rule_line (rule_of e)

@@ -15,7 +15,7 @@ behind_feeds (suc n) (b ∷ bs) = if is_inside_line b then behind_feeds (suc n) 
 abbrev pub line_at : (bytes : List ℕ) → (line : ℕ) → List ℕ
 line_at bytes line = take_while is_inside_line (behind_feeds (line - 1) bytes)
 
--- so many bytes of it are shown at most
+-- the number of its bytes that are shown at most
 abbrev pub shown_limit : ℕ
 shown_limit = 120
 

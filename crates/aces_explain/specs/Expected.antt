@@ -26,7 +26,7 @@ most limit.Local = local_limit
 most limit.Block = block_limit
 most limit.Instruction = instruction_limit
 
--- from where on; an array has an element
+-- the words before the limit; an array has an element at least
 abbrev pub from : TextLimit → List ℕ
 from limit.Array = codes "from 1 to "
 from limit.Name = codes "at most "
@@ -44,7 +44,7 @@ from limit.Local = codes "at most "
 from limit.Block = codes "at most "
 from limit.Instruction = codes "at most "
 
--- and of what
+-- the things that the limit counts
 abbrev pub things : TextLimit → List ℕ
 things limit.Name = codes " bytes"
 things limit.Struct = codes " structs"

@@ -35,7 +35,7 @@ begins_with_word w b line =
 abbrev pub is_header : (line : List ℕ) → Bool
 is_header line = begins_with 91 (unindented line)
 
--- and goes on with this path and `]`
+-- blanks aside, a line begins with `[`, this path and `]`
 abbrev pub is_header_of : (path line : List ℕ) → Bool
 is_header_of p line = is_header line && begins_with_word p 93 (drop 1 (unindented line))
 
@@ -49,7 +49,7 @@ header_over lines k = find is_header (reverse (take k lines))
 abbrev pub parts_of : (path : List ℕ) → Option (List ℕ × List ℕ)
 parts_of p = option_map (λ k. (take k p, drop (k + 1) p)) (position (λ b. nat_eq b 46) p)
 
--- a line below this header begins with the word and `=`, the header being the table's
+-- a line below this header begins with the word and `=`, and the header is the table's
 abbrev pub is_word_line : Option (List ℕ × List ℕ) → (header line : List ℕ) → Bool
 is_word_line None header line = false
 is_word_line (Some x) header line = is_header_of x.0 header && begins_with_word x.1 61 line

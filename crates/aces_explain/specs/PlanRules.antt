@@ -33,12 +33,12 @@ denied_rule (Range c d) = codes "a range by which a compartment reaches its peri
 abbrev pub flash_rule : List ℕ
 flash_rule = codes "a block has the least power of two of bytes, at least 32, that holds it, and that of the tables at least as many as any other; together they have at most the bytes of flash"
 
--- where blocks of RAM stand
+-- the rule of where blocks of RAM stand
 abbrev pub blocks_rule : List ℕ
 blocks_rule =
     codes "a block has the least power of two of bytes, at least 32, that holds it; each stands behind the one before, but globals stand in the first tail that takes their block at a multiple of its size, a tail being the eighths without a byte at the end of a block of globals of 256 bytes or more"
 
--- and where the stack stands first
+-- what it adds where the stack stands first
 abbrev pub lowest_rule : Lowest → List ℕ
 lowest_rule Largest = []
 lowest_rule Stack = codes "; the stack stands first, and behind it, up to as many bytes as the largest block has, is the first tail"

@@ -34,7 +34,7 @@ count_text count most = codes " " ++ decimal count ++ codes " of " ++ decimal mo
 abbrev pub limit_told : LimitKind → (count : ℕ) → List ℕ
 limit_told k count = codes "limit " ++ compiled_word k ++ count_text count (limit_of k) ++ rule_line (limit_rule k)
 
--- by the text on the first range that the board denies
+-- the lines by the text on the first range that the board denies
 abbrev pub denied_text : (meets : List ℕ) → Meeting → List ℕ
 denied_text meets m = codes "deny: " ++ meets ++ line_feed ++ rule_line (denied_rule m.asked)
 
@@ -60,12 +60,12 @@ pub record IsToldOfFinal (p : Program) (n : Needs) (g : Groups) (b : Board) (tol
   pub final : IsFinal p n g (slots_of b) graph
   pub same : text ≡ told graph
 
--- by the memory that has no room
+-- the text is the one on the memory that has no room
 abbrev pub IsRoomTold : PlainFirmware → Program → Needs → Groups → Board → Lack → Memory → (text : List ℕ) → Type 0
 IsRoomTold w p n g b lack memory.Flash text = IsToldOfFinal p n g b (λ f. flash_told (sizes_of p n f (slots_of b)) lack) text
 IsRoomTold w p n g b lack memory.Ram text = IsToldOfFinal p n g b (λ f. ram_told w p f b lack) text
 
--- of want of memory nothing is told
+-- the text is the one on this refusal; nothing is told of want of memory
 abbrev pub IsRefusalTold : PlainFirmware → Program → Needs → Groups → Board → PlanningRefusal → (text : List ℕ) → Type 0
 IsRefusalTold w p n g b NoMemory text = ⊥
 IsRefusalTold w p n g b (Limit k count) text = text ≡ limit_told k count

@@ -24,7 +24,7 @@ use Rattle.aces_firmwares.specs.Counts.{count_line}
 use Rattle.aces_firmwares.specs.Firmwares.{IsFirmware}
 use Rattle.aces_explain.specs.Answers.{ExplainAnswer}
 
--- the status with which `list` refuses so
+-- the status with which `list` refuses a firmware for this reason
 abbrev pub refusal_status : PlanningRefusal → ℕ
 refusal_status NoMemory = 6
 refusal_status (Limit k count) = 1

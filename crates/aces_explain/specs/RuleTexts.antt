@@ -18,7 +18,7 @@ syntax_rule = codes "a text has structs, peripherals, globals and files in this 
 abbrev pub number_rule : List ℕ
 number_rule = codes "a number is from -2147483648 to 4294967295"
 
--- of the limits of a text
+-- the rules of the limits of a text
 abbrev pub limit_rule : TextLimit → List ℕ
 limit_rule limit.Name = codes "a word has at most 64 bytes"
 limit_rule limit.Struct = codes "a text has at most 256 structs"
@@ -36,12 +36,12 @@ limit_rule limit.Local = codes "a function has at most 64 locals"
 limit_rule limit.Block = codes "a function has at most 1024 blocks"
 limit_rule limit.Instruction = codes "a function has at most 16384 instructions, ends of blocks not counted"
 
--- of what a token of a text passes
+-- the rule of what a token of a text passes
 abbrev pub excess_rule : Excess → List ℕ
 excess_rule TooWide = number_rule
 excess_rule (Passes which) = limit_rule which
 
--- of a name that is not there, by the place
+-- the rule of a name that is not there, by the place
 abbrev pub unknown_rule : CheckPlace → List ℕ
 unknown_rule (place.Struct name) = codes "a struct in a type is declared, and earlier where it stands behind no * and in no fn"
 unknown_rule (place.Periph name) = codes "a name is declared"
@@ -52,7 +52,7 @@ unknown_rule (place.Inst func block inst) =
     codes "registers and labels are those of the function, addr has a local, a peripheral or a global, and call and faddr have a function"
 unknown_rule place.Whole = codes "a name is declared"
 
--- of a name that is there already, by the place
+-- the rule of a name that is there already, by the place
 abbrev pub twice_rule : CheckPlace → List ℕ
 twice_rule (place.Struct name) = codes "the names of structs differ, and those of the fields of a struct"
 twice_rule (place.Periph name) = codes "the names of peripherals, globals and functions differ, all together"
@@ -63,7 +63,7 @@ twice_rule (place.Func name) =
 twice_rule (place.Inst func block inst) = codes "names differ"
 twice_rule place.Whole = codes "names differ"
 
--- of types that do not fit, by the place
+-- the rule of types that do not fit, by the place
 abbrev pub type_rule : CheckPlace → List ℕ
 type_rule (place.Struct name) = codes "types fit"
 type_rule (place.Periph name) = codes "types fit"
@@ -73,7 +73,7 @@ type_rule (place.Func name) = codes "the type of a parameter, a result or a regi
 type_rule (place.Inst func block inst) = codes "operands and results have the types that the instruction asks for"
 type_rule place.Whole = codes "types fit"
 
--- of a check that fails there
+-- the rule of a check that fails there
 abbrev pub check_rule : CheckKind → CheckPlace → List ℕ
 check_rule (kind.Unknown name) p = unknown_rule p
 check_rule (kind.Twice name) p = twice_rule p

@@ -72,7 +72,7 @@ fn without_return(line: &[u8]) -> &[u8]
 }
 
 /// What is shown of a line.
-fn shown(line: &[u8]) -> &[u8]
+fn shown_part(line: &[u8]) -> &[u8]
     ensures { result.now ≡ told.shown line.now }
 {
     let line = without_return(line);
@@ -129,7 +129,7 @@ fn put_shown(text: &mut Text, lines: &[&[u8]], place: Option<usize>) -> Result<(
 {
     match place {
         None => Ok(()),
-        Some(number) => put_both(text, shown(line_at(lines, number)), b"\n"),
+        Some(number) => put_both(text, shown_part(line_at(lines, number)), b"\n"),
     }
 }
 

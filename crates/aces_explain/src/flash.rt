@@ -20,7 +20,7 @@ pub struct FlashBlock {
 }
 
 /// The blocks of these sizes, with their numbers.
-fn numbered(alloc: Global, sizes: &[u64]) -> Result<Vec<FlashBlock>, AllocError>
+fn numbered_blocks(alloc: Global, sizes: &[u64]) -> Result<Vec<FlashBlock>, AllocError>
     ensures { IfOk result (λ blocks. blocks.items ≡ told.numbered sizes.now) }
 {
     let mut blocks = Vec::new(alloc);
@@ -85,7 +85,7 @@ fn falling_all(alloc: Global, sizes: &Sizes) -> Result<Vec<FlashBlock>, AllocErr
     ensures { IfOk result (λ blocks. blocks.items ≡ told.falling_flash (told.numbered (flash_blocks sizes.now))) }
 {
     let all = all_blocks(alloc, sizes)?;
-    falling(numbered(alloc, &all)?)
+    falling(numbered_blocks(alloc, &all)?)
 }
 
 /// Puts the lines of the blocks of flash, the largest first.

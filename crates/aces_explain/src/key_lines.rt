@@ -46,7 +46,7 @@ fn blanks_len(text: &[u8]) -> usize
 }
 
 /// What stands behind the blanks in front.
-fn unindented(text: &[u8]) -> &[u8]
+fn behind_blanks(text: &[u8]) -> &[u8]
     ensures { result.now ≡ places.unindented text.now }
 {
     let (_, rest) = text.split_at(blanks_len(text));
@@ -67,26 +67,26 @@ fn begins_with(byte: u8, text: &[u8]) -> bool
 fn begins_with_word(word: &[u8], byte: u8, line: &[u8]) -> bool
     ensures { result ≡ places.begins_with_word word.now byte line.now }
 {
-    let text = unindented(line);
+    let text = behind_blanks(line);
     if text.len() < word.len() {
         return false;
     }
     let (front, rest) = text.split_at(word.len());
-    front == word && begins_with(byte, unindented(rest))
+    front == word && begins_with(byte, behind_blanks(rest))
 }
 
 /// Whether, blanks aside, a line begins with `[`.
 fn is_header(line: &[u8]) -> bool
     ensures { result ≡ places.is_header line.now }
 {
-    begins_with(b'[', unindented(line))
+    begins_with(b'[', behind_blanks(line))
 }
 
 /// Whether a line is the header of this path.
 fn is_header_of(path: &[u8], line: &[u8]) -> bool
     ensures { result ≡ places.is_header_of path.now line.now }
 {
-    match unindented(line) {
+    match behind_blanks(line) {
         [b'[', rest @ ..] => begins_with_word(path, b']', rest),
         _ => false,
     }

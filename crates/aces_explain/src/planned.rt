@@ -18,7 +18,7 @@ ghost use Rattle.aces_explain.specs.Plans.{refusal_status, IsPlanTold, ExplainPl
 
 use crate::board_telling::board_told;
 use crate::plan_telling::refusal_told;
-use crate::telling::{Explained, counted, examine};
+use crate::telling::{Explained, examine, line_of_counts};
 use aces_files::loading::load_firmware_and;
 use aces_files::telling::{CommandOutput, print};
 use aces_reports::{Done, Failure};
@@ -44,7 +44,7 @@ fn done_by(refusal: PlanningRefusal) -> Result<Done, AllocError>
 }
 
 /// The lines on why a firmware has no plan for a board.
-fn unplanned(
+fn refusal_output(
     alloc: Global,
     firmware: &Checked,
     analysis: Analysis<'_>,
@@ -85,10 +85,10 @@ fn on_board(
     let analysis = analyse(alloc, firmware, policy, board.closed)?;
     match planned_by(alloc, &analysis, board) {
         Ok(_) => Ok(CommandOutput {
-            lines: counted(alloc, firmware)?,
+            lines: line_of_counts(alloc, firmware)?,
             done: Done::Completed,
         }),
-        Err(refusal) => unplanned(alloc, firmware, analysis, policy, board, refusal),
+        Err(refusal) => refusal_output(alloc, firmware, analysis, policy, board, refusal),
     }
 }
 

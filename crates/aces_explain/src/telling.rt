@@ -45,7 +45,7 @@ pub fn examine(alloc: Global, name: &str, bytes: &[u8]) -> Result<Explained, All
 }
 
 /// The line of counts of a firmware.
-pub(crate) fn counted(alloc: Global, checked: &Checked) -> Result<Vec<u8>, AllocError>
+pub(crate) fn line_of_counts(alloc: Global, checked: &Checked) -> Result<Vec<u8>, AllocError>
     ensures { IfOk result (λ v. v.items ≡ count_line (firmware_of checked.now)) }
 {
     let line = counts_of(checked);
@@ -68,7 +68,7 @@ pub fn tell(alloc: Global, name: &str, bytes: &[u8]) -> Result<CommandOutput, Al
             done: Done::FaultTold,
         }),
         Explained::Fine(checked) => Ok(CommandOutput {
-            lines: counted(alloc, &checked)?,
+            lines: line_of_counts(alloc, &checked)?,
             done: Done::Completed,
         }),
     }

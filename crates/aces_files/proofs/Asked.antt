@@ -25,7 +25,7 @@ pub known_before : (told : Bool) (held : Held) (calls later : List Call) (s : Or
     → IsKnown told held (calls ++ later) s bytes
 known_before told held calls later s bytes k = (read_before calls later s bytes k.0, k.1)
 
--- and with others in front of them
+-- what some calls tell is told by them with others in front of them
 read_behind : (earlier calls : List Call) (s : Origin) (bytes : List ℕ) → WasRead calls s bytes → WasRead (earlier ++ calls) s bytes
 read_behind earlier calls s bytes k = record {
   before = earlier ++ k.before;

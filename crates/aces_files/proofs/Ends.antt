@@ -70,7 +70,7 @@ load_failed A Exceeds r s old new quiet named missing large (Unwritten name) h =
 load_failed A Exceeds r s old new quiet named missing large Unprinted h = absurd h
 load_failed A Exceeds r s old new quiet named missing large NoMemory h = no_memory A r old new quiet h
 
--- why a source was not read is so with other calls in front of those that were to read it
+-- the reason why a source was not read stays one with other calls in front of those that were to read it
 pub load_behind : (told : Bool) (held : Held) (earlier calls : List Call) (s : Origin) (before after : ℕ) (e : Failure)
     → IsLoadFailure (IsKnownLarge told held calls) told held s before after e → IsLoadFailure (IsKnownLarge told held (earlier ++ calls)) told held s before after e
 load_behind told held earlier calls s before after (Refused name f) h = (h.0, h.1, large_behind told held earlier calls s h.2, h.3)
@@ -155,7 +155,7 @@ content_refused A IsFault name answer (Unwritten n) h = absurd h
 content_refused A IsFault name answer Unprinted h = absurd h
 content_refused A IsFault name answer NoMemory h = tt
 
--- nor does a step that does the same over files of which nothing is told and no fault was counted, for it touches none
+-- a step that does the same over files of which nothing is told and no fault was counted names none as unread, for it touches none
 pub untouched_names : (calls : List Call) (A : Outcome → Type 0) (r : Request) (held : Held) (old new : SinkState) (e : Result Done Failure)
     → Does A r (record { told = false; held = held; read_faults = 0; write_faults = 0; out = old })
     (record { told = false; held = held; read_faults = 0; write_faults = 0; out = new }) e
@@ -205,7 +205,7 @@ printed_also A B m (Selftest seed size) old new h = h
 printed_also A B m (Explain firmware) old new h = h
 printed_also A B m (ExplainPlan firmware board policy) old new h = h
 
--- what did for some answers did for others
+-- what a command did by some answers it did by others
 pub did_also : (A B : Outcome → Type 0) → ((o : Outcome) → A o → B o) → (r : Request) (old new : World) (e : Result Done Failure)
     → Does A r old new e → Does B r old new e
 did_also A B m r old new (Ok Completed) d = record { outcome = d.outcome; answer = m d.outcome d.answer; ended = d.ended; silent = d.silent; all = d.all }

@@ -1,4 +1,4 @@
--- What a request on one or two files answers where no call on the outside fails and memory does not run out, and so `run` and `bin`.
+-- What a request on one or two files answers where no call on the outside fails and memory does not run out, and what `run` and `bin` then answer.
 use Rattle.std.specs.Prelude.{◌≡◌, ℕ, List, [], Some, None}
 use Rattle.machine_devices.specs.declared.image.Image.{Image}
 use Rattle.machine_devices.specs.Tape as tapes
@@ -34,7 +34,8 @@ pub data AnswerByFile (s : Origin) (A : (bytes : List ℕ) → Outcome → Type 
   too_large : Exceeds s → AnswerByFile s A Has Exceeds (refused s.name (TooLarge s.limit))
   read : (bytes : List ℕ) (o : Outcome) → Has s bytes → A bytes o → AnswerByFile s A Has Exceeds o
 
--- The same on two files: by the first that is larger than its limit, the one before it being there, and else by the bytes of both.
+-- The answer to a request on two files: where the first is larger than its limit, or the first is there and the second is larger than its limit, the
+-- larger one is refused; else the answer is by the bytes of both.
 pub data AnswerByFiles (s t : Origin) (A : (bytes text : List ℕ) → Outcome → Type 0) (Has : Origin → List ℕ → Type 0) (Exceeds : Origin → Type 0) : Outcome → Type 0 where
   first_large : Exceeds s → AnswerByFiles s t A Has Exceeds (refused s.name (TooLarge s.limit))
   second_large : (bytes : List ℕ) → Has s bytes → Exceeds t → AnswerByFiles s t A Has Exceeds (refused t.name (TooLarge t.limit))

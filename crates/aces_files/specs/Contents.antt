@@ -15,12 +15,13 @@ use Rattle.plan_board.specs.Reading as boards
 abbrev pub IsContentFault : (told f : Fault) → Type 0
 IsContentFault told f = (f ≡ told) × (is_want_of_memory told ≡ false)
 
--- bytes are the text of no image, and this is their first fault; and so of a tape for windows
+-- bytes are the text of no image, and this is their first fault
 pub record IsNoImage (bytes : List ℕ) (f : Fault) : Type 0 where
   pub first : ImageFault
   pub found : images.first_fault bytes ≡ Some first
   pub named : IsContentFault (Image first) f
 
+-- a text is no tape for these windows, and this is its first fault
 pub record IsNoTape (windows : List Window) (text : List ℕ) (f : Fault) : Type 0 where
   pub first : TapeFault
   pub found : tapes.first_fault text windows ≡ Some first

@@ -93,7 +93,7 @@ module _ (Answer : Outcome → Type 0) (request : Request) (old new : World) whe
     pub silent : outcome.line ≡ []
     pub all : IsCarriedOut old new outcome
 
-  -- it was refused so, and nothing was printed or written
+  -- it was refused with this outcome, and nothing was printed or written
   pub record IsRefused (outcome : Outcome) : Type 0 where
     pub answer : Answer outcome
     pub quiet : Quiet old new
@@ -105,7 +105,7 @@ module _ (Answer : Outcome → Type 0) (request : Request) (old new : World) whe
     pub answer : Answer outcome
     pub part : IsBrokenOff old new outcome
 
-  -- where memory ran out nothing was printed, but of a run of the source the first lines
+  -- where memory ran out nothing was printed but the first lines of a run of the source
   abbrev pub IsPrintedInPart : Request → Type 0
   IsPrintedInPart (Source firmware policy tape steps) = (new.out ≡ old.out) ⊎ IsPart
   IsPrintedInPart r = new.out ≡ old.out

@@ -48,7 +48,7 @@ of_planning w b (planning.Limit which count) = PastLimit which count
 of_planning w b (planning.Denied m) = Denied (meeting_text w b m)
 of_planning w b (planning.Room lack) = NoRoom lack
 
--- that one, or memory ran out for its line
+-- the failure is that one, or memory ran out for its line
 abbrev pub IsPlanningFailure : PlainFirmware → Board → PlanningRefusal → Failure → Type 0
 IsPlanningFailure w b r f = (f ≡ of_planning w b r) ⊎ (f ≡ NoMemory)
 

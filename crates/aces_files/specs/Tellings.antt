@@ -9,11 +9,11 @@ use Rattle.aces_reports.specs.Ends.{status_of}
 use Rattle.aces_files.specs.Outcomes.{Outcome, done}
 use Rattle.aces_files.specs.declared.telling.CommandOutput.{CommandOutput}
 
--- the outcome of a command that prints these lines, and ends so
+-- the outcome of a command that prints these lines, and has this end
 abbrev pub told_outcome : CommandOutput → Outcome
 told_outcome t = done (status_of (Ok t.done)) t.lines.items None
 
--- these bytes are printed, and the command ends so; or the output failed
+-- these bytes are printed, and the command has this end; or the output failed
 abbrev pub Prints : (old new : SinkState) → List ℕ → Done → Result Done Failure → Type 0
 Prints old new lines d (Ok e) = (e ≡ d) × Puts old new lines true
 Prints old new lines d (Err (Refused name fault)) = ⊥

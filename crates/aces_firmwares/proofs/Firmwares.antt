@@ -35,7 +35,7 @@ not_typed w bytes (At kind place) f t h q =
     subst (IsNoFirmware bytes) (sym q.0) (ill_typed kind place (record { firmware = w; is_text = t; found = h }))
 not_typed w bytes WantOfMemory f t h q = let wrong : true ≡ false = q.1 in cc
 
--- and so is the text of a firmware of which a check fails
+-- the text of a firmware of which a check fails is the text of no typed firmware
 pub check_refused : (w : PlainFirmware) (bytes name : List ℕ) (fault : CheckFault) (e : Failure) → firmwares.IsText w bytes → IsFaultOf w fault
     → IsContentFailure (IsContentFault (Check fault)) name e → IsContentFailure (IsNoFirmware bytes) name e
 check_refused w bytes name fault e t h =
@@ -44,7 +44,7 @@ check_refused w bytes name fault e t h =
 abbrev functions : List FileDecl → List Func
 functions fs = flat_map (λ (f : FileDecl). f.funcs) fs
 
--- its functions as the code has them are as many
+-- files have as many functions in the code's form as in the definition's
 pub same_count : (fs : List FileDecl) → length (flat_map (λ (f : PlainFile). f.funcs) (map file_of fs)) ≡ length (functions fs)
 same_count [] = refl
 same_count (f ∷ fs) =

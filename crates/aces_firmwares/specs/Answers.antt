@@ -25,7 +25,7 @@ source_outcome w compartments text steps =
     let queues = tapes.queues_of text (windows_of w) in
     done (source_status w compartments queues steps) (source_lines w compartments queues steps) None
 
--- the answer to `source` on the bytes of both files, the firmware being read and checked first; the compartments are those of
+-- the answer to `source` on the bytes of both files, of which the firmware is read and checked first; the compartments are those of
 -- the policy by what the firmware's functions need on an open board
 pub data SourceAnswer (firmware : List ℕ) (policy : Policy) (tape : List ℕ) (steps : ℕ) (bytes text : List ℕ) : Outcome → Type 0 where
   no_firmware : (f : Fault) → IsNoFirmware bytes f → SourceAnswer firmware policy tape steps bytes text (refused firmware f)

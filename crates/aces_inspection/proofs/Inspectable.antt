@@ -12,7 +12,7 @@ use Rattle.aces_files.specs.Contents.{IsNoImage, IsNoTape}
 use Rattle.aces_files.specs.Outcomes.{Outcome}
 use Rattle.aces_inspection.specs.Answers.{WatchAnswer, StateAnswer, no_image, no_tape, watched, holds}
 
--- how runs end
+-- the ends of runs
 ends : (e : End) → (end_status e ≡ 0) ⊎ (end_status e ≡ 7)
 ends (Halt zero) = inl refl
 ends (Halt (suc k)) = inr refl

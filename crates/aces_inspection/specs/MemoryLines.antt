@@ -20,7 +20,7 @@ process_stack c = if c.on_psp then c.sp else c.other_sp
 abbrev pub frame_size : ℕ
 frame_size = 32
 
--- the monitor keeps at most so many saved entries, and so many loans
+-- the most saved entries that the monitor keeps, and the most loans
 abbrev pub most_saved : ℕ
 most_saved = 8
 
@@ -51,7 +51,7 @@ module _ (i : Image) (s : State) where
       named_word (codes "frame") b ++ framed (codes " pc") b 6 ++ framed (codes " lr") b 5 ++ framed (codes " psr") b 7
       ++ frame_registers b ++ line_feed
 
-  -- in a handler, where all of it lies in RAM
+  -- the line of the frame, which is told in a handler, where all of the frame lies in RAM
   unfoldable pub frame_line : List ℕ
   frame_line =
       if s.protection.handler && is_inside (process_stack s.core) frame_size i.ram_base i.ram_size
@@ -90,7 +90,7 @@ module _ (i : Image) (s : State) where
         codes "loan " ++ decimal k ++ named_word [] (block_word (loan_offset k)) ++ named_word [] (block_word (loan_offset k + 4))
         ++ codes " number " ++ decimal (block_word (loan_offset k + 8)) ++ line_feed
 
-    -- so many things, the last first
+    -- the lines of a count of things, the last first
     abbrev pub last_first : (line : ℕ → List ℕ) → (count : ℕ) → List ℕ
     last_first line n = flat_map (λ k. line (n - 1 - k)) (numbers_below n)
 

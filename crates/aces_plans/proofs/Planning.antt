@@ -18,7 +18,7 @@ use Rattle.aces_plans.specs.Answers.{StackAnswers, bounded}
 use Rattle.aces_plans.specs.Answers as answers
 use Rattle.aces_files.specs.Loads.{IsRefusal, IsPlanningFailure, of_planning}
 
--- one of which a limit is passed
+-- a firmware of which a limit is passed
 limited : (firmware board : List ℕ) (policy : Policy) (bytes text : List ℕ) (w : PlainFirmware) (b : Board) → IsFirmware w bytes → IsRead text b
     → (r : PlanningRefusal) → IsLimited policy w b r → IsRefusal (StackAnswers firmware board policy bytes text) (of_planning w b r)
 limited firmware board policy bytes text w b f k NoMemory h = tt

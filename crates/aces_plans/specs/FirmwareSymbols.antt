@@ -11,7 +11,7 @@ use Rattle.plan.specs.declared.planner.PlannedFirmware.{PlannedFirmware}
 use Rattle.plan.specs.Planned.{IsPlannedFor}
 use Rattle.image_symbols.specs.Symbols.{symbols}
 
--- the symbols of a firmware that needs so much and is planned so
+-- the symbols of a firmware with these needs, this graph and this plan
 abbrev pub symbols_for : PlainFirmware → Needs → PlannedFirmware → Board → List ℕ
 symbols_for w n x b = symbols (record { firmware = w; program = resolve w; needs = n; graph = x.graph; plan = x.plan; board = b })
 

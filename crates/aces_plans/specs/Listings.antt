@@ -14,7 +14,7 @@ use Rattle.plan.specs.declared.planner.PlannedFirmware.{PlannedFirmware}
 use Rattle.plan.specs.Planned.{IsPlannedFor}
 use Rattle.plan_report.specs.Listing.{listing}
 
--- the listing of a firmware that needs so much and is planned so
+-- the listing of a firmware with these needs, this graph and this plan
 abbrev pub listing_for : Policy → PlainFirmware → Needs → PlannedFirmware → Board → List ℕ
 listing_for policy w n x b =
     listing (record { firmware = w; program = resolve w; needs = n; graph = x.graph; plan = x.plan; board = b }) (policy_word policy)
@@ -26,8 +26,9 @@ pub record IsListing (policy : Policy) (w : PlainFirmware) (b : Board) (lines : 
   pub are_needs : AreNeedsOf w b.closed needs
   pub made : PlannedFirmware
   pub is_planned : IsPlannedFor (resolve w) needs (division policy w needs) b made
-  -- what a run of the source stores, accesses and calls, and on a closed board loads, that graph permits
+  -- that graph permits what a run of the source stores, accesses and calls, and on a closed board loads
   pub permitted : RunsStayInPolicy w needs made.graph
-  -- and what it lets a compartment write its functions need, or it is exposed: where a line says `exposed 0`, no global is
+  -- each object that it lets a compartment write is one that its functions need, or one that is exposed: where a line says `exposed 0`, no global
+  -- is exposed
   pub needed : IsBoundedByNeeds w needs made.graph b
   pub same : lines ≡ listing_for policy w needs made b

@@ -48,7 +48,8 @@ fn listing_of_plan(
 ///
 /// # Errors
 ///
-/// There is no memory, a limit of what is compiled is passed, or the blocks have more bytes than a memory of the board.
+/// There is no memory, a limit of what is compiled is passed, an address that the firmware asks for is one that the board denies, or the
+/// blocks have more bytes than a memory of the board.
 pub fn listing_of(
     alloc: Global,
     firmware: &Checked,

@@ -35,7 +35,7 @@ pub fn stack<'a, F: Files, O: Sink>(
     ensures { CarriesOut (AnswerToStack firmware.now board.now policy) F.Files files.old files.new (Stack firmware.now board.now policy) (sink O.Sink out.old) (sink O.Sink out.new) result }
 {
     let both = load_firmware_and(alloc, files, firmware, board)?;
-    let told = bounded(
+    let told = stack_by_bytes(
         alloc,
         firmware,
         both.first.as_slice(),
@@ -47,7 +47,7 @@ pub fn stack<'a, F: Files, O: Sink>(
 }
 
 /// The output by the bytes of both files, each behind its name. No file is touched, and nothing is printed.
-fn bounded<'a>(
+fn stack_by_bytes<'a>(
     alloc: Global,
     firmware: &'a str,
     bytes: &[u8],

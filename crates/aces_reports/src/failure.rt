@@ -14,18 +14,18 @@ use plan_layout::refusal::Lack;
 use plan_model::limits::LimitKind;
 use std::alloc::AllocError;
 
-/// How a command that nothing stopped ends.
+/// The end of a command that nothing stopped.
 #[derive(Clone, Copy)]
 pub enum Done {
-    /// Well: status 0.
+    /// All was done: status 0.
     Completed,
-    /// A run by a stop, or by a halt other than 0: status 7.
+    /// A run ended by a stop, or by a halt other than 0: status 7.
     RunFailed,
-    /// With a no to what was asked: status 8.
+    /// What was asked is answered with a no: status 8.
     Negative,
-    /// With what is wrong with a file, which was printed because it was asked for: status 1.
+    /// What is wrong with a file was printed, because it was asked for: status 1.
     FaultTold,
-    /// With what a board has no room for, which was printed because it was asked for: status 3.
+    /// What a board has no room for was printed, because it was asked for: status 3.
     NoRoomTold,
 }
 

@@ -1,4 +1,4 @@
-//! The line that tells why a command was stopped, put piece by piece and so without memory.
+//! The line that tells why a command was stopped, put piece by piece, which takes no memory.
 
 ghost use Rattle.std.specs.Prelude.{◌≡◌, ◌++◌, Err};
 ghost use Rattle.std.specs.Fmt.{decimal};

@@ -37,7 +37,7 @@ use Rattle.aces_selftest.specs.Lines.{Ran, AreAlike, firmware_line, division_lin
 abbrev pub source_limit : ℕ
 source_limit = 100000
 
--- the image that is compiled: of the generated firmware, each of its files being a compartment, on the board of self-tests
+-- the image that is compiled of the generated firmware for the board of self-tests; each file of the firmware is a compartment
 abbrev pub IsTestImage : (seed size : ℕ) → Image → Type 0
 IsTestImage seed size i = IsImageBy Filename (made seed size) test_board i
 

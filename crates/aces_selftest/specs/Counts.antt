@@ -14,13 +14,13 @@ use Rattle.aces_selftest.specs.declared.sources.SourceCount.{SourceCount}
 use Rattle.aces_selftest.specs.declared.machines.MachineCount.{MachineCount}
 use Rattle.aces_selftest.specs.TakesSteps.{TakesSteps, machine_ending_of}
 
--- of a source from a state on, in these compartments
+-- the count of a run of a source from a state on, in these compartments
 pub record IsSourceCount (p : Program) (compartments : List ℕ) (limit : ℕ) (s : SourceState) (c : SourceCount) : Type 0 where
   pub takes : TakesSteps ending_of (source_step p compartments) limit s c.steps
   pub events : c.events.items ≡ events (source_step p compartments) (source_event p compartments) c.steps s
   pub end : seen_end c.end ≡ ending_of (run (source_step p compartments) c.steps s)
 
--- of a machine from a state on
+-- the count of a run of a machine from a state on
 pub record IsMachineCount (i : Image) (limit : ℕ) (s : State) (c : MachineCount) : Type 0 where
   pub takes : TakesSteps machine_ending_of (step i) limit s c.steps
   pub events : c.events.items ≡ events (step i) (event i) c.steps s

@@ -20,7 +20,7 @@ firmware_line f g p = codes "functions " ++ decimal f ++ codes " globals " ++ de
 abbrev pub division_line : (compartments sites : ℕ) → List ℕ
 division_line c s = codes "compartments " ++ decimal c ++ codes " sites " ++ decimal s ++ line_feed
 
--- of a run, with the line of its end behind
+-- the counts of a run, with the line of its end behind
 abbrev pub counted_line : (word : List ℕ) → (steps events : ℕ) → (end : List ℕ) → List ℕ
 counted_line word n e end = word ++ decimal n ++ codes " steps " ++ decimal e ++ codes " events " ++ end
 

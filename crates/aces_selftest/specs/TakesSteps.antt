@@ -1,10 +1,10 @@
--- How many steps a run takes that may take so many.
+-- The number of steps that a run takes within a limit.
 use Rattle.std.specs.Prelude.{◌≡◌, ◌≢◌, ℕ, ◌<◌, ◌≤◌, Option, None}
 use Rattle.base_words.specs.Runs.{run}
 use Rattle.machine_model.specs.declared.state.End.{End}
 use Rattle.machine_model.specs.State.{State}
 
--- up to the step by which it ends, and that one among them; or all, where it goes on
+-- the steps up to the one by which the run ends, and that one among them; or all that it may take, where it goes on
 pub record TakesSteps {S E : Type 0} (ending : S → Option E) (step : S → S) (limit : ℕ) (first : S) (n : ℕ) : Type 0 where
   pub few : n ≤ limit
   pub goes : (k : ℕ) → k < n → ending (run step k first) ≡ None

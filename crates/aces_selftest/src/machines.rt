@@ -15,7 +15,7 @@ pub struct MachineCount {
     pub steps: u64,
     /// Its accesses of peripherals, in order.
     pub events: Vec<Event>,
-    /// How it ended; none where it goes on.
+    /// Its end; it has none as long as it goes on.
     pub end: Option<End>,
 }
 

@@ -36,7 +36,7 @@ pub(crate) struct SourceTest {
 }
 
 /// Runs a numbered source in these compartments, and counts its steps.
-fn counted(
+fn count_of_run(
     alloc: Global,
     program: &Program<'_>,
     compartments: Vec<u32>,
@@ -63,7 +63,7 @@ pub(crate) fn run_source(
     let analysis = analyse(alloc, firmware, Policy::Filename, false)?;
     let (program, _, groups) = analysis.into_parts();
     let functions = program.funcs.len();
-    let count = counted(alloc, &program, groups.of.into_vec(), tape)?;
+    let count = count_of_run(alloc, &program, groups.of.into_vec(), tape)?;
     Ok(SourceTest { functions, count })
 }
 

@@ -21,7 +21,7 @@ use plan_model::Policy;
 use std::alloc::{AllocError, Global};
 
 /// The lines on an image that was compiled, and how it ends.
-fn compared(
+fn image_output(
     alloc: Global,
     seed: u32,
     size: u32,
@@ -53,7 +53,7 @@ pub fn selftest<'a>(alloc: Global, seed: u32, size: u32) -> Result<CommandOutput
     let firmware = checked(alloc, seed, size)?;
     let board = test_board(alloc);
     match compile_by(alloc, &firmware, &board, Policy::Filename) {
-        Ok(image) => Ok(compared(alloc, seed, size, &firmware, &image)?),
+        Ok(image) => Ok(image_output(alloc, seed, size, &firmware, &image)?),
         Err(refusal) => Err(planning_failure(alloc, firmware.firmware(), &board, refusal)),
     }
 }

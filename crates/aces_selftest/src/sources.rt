@@ -15,7 +15,7 @@ pub struct SourceCount {
     pub steps: u32,
     /// Its accesses of peripherals, in order.
     pub events: Vec<Event>,
-    /// How it ended; none where it goes on.
+    /// Its end; it has none as long as it goes on.
     pub end: Option<SourceEnd>,
 }
 

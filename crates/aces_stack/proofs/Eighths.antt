@@ -19,7 +19,7 @@ has_eighths stack h =
     let e : stack ≡ 2 ^ 3 * 2 ^ (k - 3) = h.3 ∙ (ap (λ (i : ℕ). 2 ^ i) m ∙ pow-add 2 3 (k - 3)) in
     record { eighth = 2 ^ (k - 3); some_ = pow_pos (k - 3); whole = e }
 
--- of eight times e, so many times e are left
+-- a number of times e that is at most eight times e is at most eight
 few_times : (k e : ℕ) → 0 < e → k * e ≤ 8 * e → k ≤ 8
 few_times k e pos h = by (cases_lt 8 k)
   where

@@ -58,7 +58,7 @@ module _ (p : Program) (S : ObjectSets) (closed : Bool) (n : Needs) (g : Groups)
       (subst (λ (i : ℕ). CallsAt p S c.other.func (here p c.other.func i k) h) eb
       (subst (λ (i : ℕ). CallsAt p S i (here p i b k) h) ef calls)))
 
-  -- by whether its place is a crossing site's, a call is one of `Calls`
+  -- a call is one of `Calls`, by whether its place is a crossing site's
   call_is : (f b k h : ℕ) → CallsAt p S f (here p f b k) h → (x : Option ℕ) → site_number n g f b k ≡ x → Calls n g f h (has_number x)
   unfolding site_number
   call_is f b k h calls None e = by (crosses g t.site) refl

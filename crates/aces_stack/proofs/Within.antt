@@ -44,7 +44,7 @@ module _ (p : Program) (z : PlainType → ℕ) (S : ObjectSets) (closed : Bool) 
       both_sides eighths.eighth (q - 32) (t + 32) eighths.some_ (omega arith) (omega arith) in
       subst (λ (y : ℕ). (q - 32) / y * y + rounded_up (t + 32) y ≡ stack) (sym d) (b ∙ sym w)
 
-  -- of each of these frames, it and those below leave room for an exception
+  -- each of these frames, with those below it, leaves room for an exception
   abbrev Low : List Where → Type 0
   Low [] = Unit {0}
   Low (w ∷ ws) = (takes (w ∷ ws) + 32 ≤ stack) × Low ws

@@ -1,5 +1,5 @@
 -- Beyond the program's claim: only laws, proofs and functions inside the tool cite this file.
--- What is promised of a firmware whose bound on the stack fits holds: statements of laws.
+-- That the promises of a firmware whose bound on the stack fits are kept: statements of laws.
 use Rattle.machine_devices.specs.declared.image.Image.{Image}
 use Rattle.base_ranges.specs.Ranges.{IsPowerBetween}
 use Rattle.machine_devices.specs.Rules.{least_stack, greatest_stack}

@@ -1,4 +1,4 @@
--- An image refines a firmware whole: as `Refines` of `simulate` says it, with no premise on the stack.
+-- An image refines a firmware whole: as `Refines` of `refine_model` says it, with no premise on the stack.
 use Rattle.std.specs.Prelude.{ℕ, List}
 use Rattle.machine_devices.specs.declared.image.Image.{Image}
 use Rattle.machine_model.specs.State.{State}

@@ -35,11 +35,11 @@ own : (b t : SourceState) → ending_of t ≡ None → frames_behind b t ≡ fra
 own b (Running frames m) h = refl
 own b (Ended e) h = let wrong : Some e ≡ None = h in cc
 
--- before one that has ended it is those of the state before
+-- a state that has ended has the frames of the state before it
 earlier : (b t : SourceState) (e : state.SourceEnd) → t ≡ Ended e → frames_behind b t ≡ frames_of b
 earlier b t e h = ap (λ x. frames_behind b x) h
 
--- where a run stands that is over
+-- the place at which a run that is over stands
 pub record IsStopped (p : Program) (c : List ℕ) (queues : List (List ℕ)) (limit going made : ℕ) (end : Option SourceEnd) : Type 0 where
   pub run_out : IsRunOut p c queues limit made
   pub ends : seen_end end ≡ ending_of (source_after p c queues limit)
@@ -77,7 +77,7 @@ module _ (p : Program) (c : List ℕ) (queues : List (List ℕ)) (limit : ℕ) w
             ∙ ap (λ n. frames_of (source_after p c queues n)) before;
       }
 
--- the lines of a run that is where it stands
+-- the lines that are told of a run's halt are those of the run
 pub lines_told : (w : PlainFirmware) (c : List ℕ) (queues : List (List ℕ)) (limit : ℕ) (h : Halt) (lines : List ℕ)
     → IsHalt (resolve w) c limit (start (resolve w) queues) h → lines ≡ halt_lines w c queues h → AreLines w c queues limit lines
 lines_told w c queues limit h lines halt e =

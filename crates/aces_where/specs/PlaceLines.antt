@@ -60,7 +60,7 @@ module _ (w : PlainFirmware) where
   spot_lines p end [] vs = []
   spot_lines p end (s ∷ waiting) vs = at_line p s ++ flat_map (waits_line p) waiting ++ register_lines s.func vs ++ last_line end (met p s vs)
 
-  -- where a run stands that ended so: of one whose `main` has returned nothing is left
+  -- the lines of where a run with this end stands; nothing is left of one whose `main` has returned
   abbrev pub standing_lines : Program → Option SourceEnd → List Frame → List ℕ
   standing_lines p (Some Returned) frames = []
   standing_lines p end frames = spot_lines p end (map spot_of frames) (registers_of frames)

@@ -1,4 +1,4 @@
--- How far a run of the source comes within so many steps, where it then stands, and which lines tell so.
+-- The steps that a run of the source makes within a limit, where it then stands, and the lines that tell it.
 use Rattle.std.specs.Prelude.{◌≡◌, ◌≢◌, ℕ, ◌-◌, ◌<◌, ◌≤◌, ◌⊎◌, List, None}
 use Rattle.ir_model.specs.Plain.{PlainFirmware}
 use Rattle.ir_model.specs.Resolved.{Program}

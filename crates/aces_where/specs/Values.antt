@@ -13,7 +13,7 @@ port_digits k = if nat_lt k 65536 then 4 else 8
 abbrev pub port_text : (offset : ℕ) → List ℕ
 port_text k = codes " 0x" ++ hexadecimal (port_digits k) k
 
--- how many bytes behind the first
+-- the offset as a number of bytes behind the first
 abbrev pub behind_text : (offset : ℕ) → List ℕ
 behind_text k = codes " " ++ decimal k
 
@@ -23,7 +23,7 @@ global_text w g k = codes " global " ++ global_name w g ++ behind_text k
 abbrev pub periph_text : PlainFirmware → (periph offset : ℕ) → List ℕ
 periph_text w q k = codes " periph " ++ periph_name w q ++ port_text k
 
--- of whatever frame
+-- the address of a local's byte, of whatever frame
 abbrev pub local_text : PlainFirmware → (func local offset : ℕ) → List ℕ
 local_text w f l k = codes " local " ++ func_name w f ++ codes "." ++ local_name w f l ++ behind_text k
 

@@ -9,7 +9,7 @@ ghost use Rattle.ir_output.specs.Ends.{seen_end};
 ghost use Rattle.aces_where.specs.PlaceLines as lines;
 
 use crate::frames::{put_at, put_registers, put_waiting};
-use crate::meeting::met;
+use crate::meeting::met_value;
 use crate::values::put_value;
 use ir_model::firmware::Firmware;
 use ir_output::ending::end_line;
@@ -109,7 +109,7 @@ fn put_spots(
             put_at(text, firmware, program, *spot)?;
             put_waiting(text, firmware, program, waiting)?;
             put_registers(text, firmware, spot.func, registers)?;
-            put_last(text, firmware, end, met(program, *spot, registers))
+            put_last(text, firmware, end, met_value(program, *spot, registers))
         }
     }
 }

@@ -36,7 +36,7 @@ fn reaching_register(operation: &Operation<'_>) -> Option<usize>
 }
 
 /// The value of a number; 0 where there is none.
-fn held(registers: &[Value], register: usize) -> Value
+fn value_or_zero(registers: &[Value], register: usize) -> Value
     ensures { result ≡ get_or registers.now register (Number 0) }
 {
     if register < registers.len() {
@@ -50,7 +50,7 @@ fn held(registers: &[Value], register: usize) -> Value
 pub(crate) fn value_at(registers: &[Value], register: usize) -> Value
     ensures { value_of result ≡ get_or (map value_of registers.now) register (plain.Number 0) }
 {
-    held(registers, register)
+    value_or_zero(registers, register)
 }
 
 /// What an instruction of a function with these registers meets.
@@ -64,7 +64,11 @@ fn met_by(operation: &Operation<'_>, registers: &[Value]) -> Option<Value>
 }
 
 /// What the instruction at which a frame with these registers stands meets.
-pub(crate) fn met(program: &Program<'_>, spot: FramePlace, registers: &[Value]) -> Option<Value>
+pub(crate) fn met_value(
+    program: &Program<'_>,
+    spot: FramePlace,
+    registers: &[Value],
+) -> Option<Value>
     ensures { option_map value_of result ≡ spots.met (program_of program.now) spot (map value_of registers.now) }
 {
     match here(program, spot.func, spot.block, spot.place) {

@@ -17,7 +17,7 @@ pub(crate) struct Halt {
     pub(crate) going: u32,
     /// How many steps were made, with the one that ended it.
     pub(crate) made: u32,
-    /// How it ended; none where it made all steps.
+    /// Its end; it has none where it made all steps.
     pub(crate) end: Option<SourceEnd>,
 }
 

@@ -33,7 +33,7 @@ use std::alloc::{AllocError, Global};
 /// # Errors
 ///
 /// There is no memory for it.
-fn halted(
+fn halt_of_run(
     alloc: Global,
     firmware: &Checked,
     program: &Program<'_>,
@@ -93,7 +93,7 @@ fn lines_on(
     requires again { again ≡ tape }
     ensures { IfOk result (λ lines. AreLines (firmware_of firmware.now) compartments.now tape steps lines.items) }
 {
-    let halt = halted(alloc, firmware, program, compartments, tape, steps)?;
+    let halt = halt_of_run(alloc, firmware, program, compartments, tape, steps)?;
     let lines = lines_of(alloc, firmware, program, compartments, again, halt)?;
     Ok(lines)
 }

@@ -17,12 +17,12 @@ is_open c Read r = is_user c r
 
 -- of a subject and one of its compartments
 module _ (s : Subject) (c : ℕ) where
-  -- whether one of its functions writes a global; for loads, or reads it
+  -- whether one of its functions writes a global, or, for loads, writes or reads it
   abbrev pub is_needed : Access → (global : ℕ) → Bool
   is_needed Write x = writes s.needs s.graph.groups c (Global x)
   is_needed Read x = writes s.needs s.graph.groups c (Global x) || reads s.needs s.graph.groups c (Global x)
 
-  -- the globals of a data region that none of them does
+  -- the globals of a data region that none of its functions needs
   abbrev pub unneeded : Access → DataRegion → List ℕ
   unneeded a r = filter (λ x. not (is_needed a x)) r.globals
 

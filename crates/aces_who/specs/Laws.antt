@@ -19,6 +19,6 @@ pub record ExposedAreUnneeded (s : Subject) (c x : ℕ) : Type 0 where
   pub writes : has (exposed_globals s c Write) x ≡ (may_write s.program s.needs s.graph c (Global x) && not (is_needed s c Write x))
   pub reads : has (exposed_globals s c Read) x ≡ (may_read s.program s.needs s.graph c (Global x) && not (is_needed s c Read x))
 
--- of every firmware with its compartments on a board
+-- both hold of every firmware with its compartments on a board
 abbrev pub ExposuresAreExact : Type 0
 ExposuresAreExact = (s : Subject) (c : ℕ) → ExposuresAddUp s c × ((x : ℕ) → ExposedAreUnneeded s c x)

@@ -13,7 +13,7 @@ use Rattle.plan_report.specs.Subjects.{Subject}
 use Rattle.aces_who.specs.Laws.{ExposuresAddUp, ExposedAreUnneeded}
 use Rattle.aces_who.specs.WhoLines.{who_lines}
 
--- a firmware that needs so much and is planned so, on a board
+-- a firmware with these needs, this graph and this plan, on a board
 abbrev pub subject_for : PlainFirmware → Needs → PlannedFirmware → Board → Subject
 subject_for w n x b = record { firmware = w; program = resolve w; needs = n; graph = x.graph; plan = x.plan; board = b }
 

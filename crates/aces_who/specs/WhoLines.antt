@@ -27,7 +27,7 @@ abbrev pub file_text_of : Subject → (first : Option ℕ) → List ℕ
 file_text_of s None = []
 file_text_of s (Some f) = codes " file " ++ file_name s.firmware (file_of s.program f)
 
--- by files, the file of a compartment, which is that of its first function
+-- the file of a compartment, where compartments are made by files: that of its first function
 abbrev pub file_text : Subject → Policy → (compartment : ℕ) → List ℕ
 file_text s Filename c = file_text_of s (position (λ d. nat_eq d c) s.graph.groups.of)
 file_text s Optimized c = []
@@ -38,11 +38,11 @@ compartment_line s policy c = codes "compartment " ++ decimal c ++ file_text s p
 
 -- ---- objects
 
--- the compartments that stand so to an object, each behind a space
+-- the compartments that have this tie, each behind a space
 abbrev pub tied_text : Subject → Tie → List ℕ
 tied_text s t = spaced (map decimal (tied s t))
 
--- on a closed board those that may read a global, its writers among them
+-- the compartments that may read a global, its writers among them, on a closed board
 abbrev pub readers_text : Subject → (global : ℕ) → List ℕ
 readers_text s x = if s.board.closed then codes " readers" ++ tied_text s (MayRead x) else []
 
@@ -111,6 +111,6 @@ all_exposure_lines s = flat_map (exposure_lines s) (numbers_below s.graph.groups
 unfoldable pub all_call_lines : Subject → List ℕ
 all_call_lines s = flat_map (caller_lines s) (numbers_below (length s.needs.funcs))
 
--- of a firmware whose compartments are those of the policy
+-- the lines of a firmware whose compartments are those of the policy
 abbrev pub who_lines : Subject → Policy → List ℕ
 who_lines s policy = all_compartment_lines s policy ++ all_global_lines s ++ all_periph_lines s ++ all_exposure_lines s ++ all_call_lines s

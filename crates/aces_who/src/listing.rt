@@ -17,7 +17,7 @@ use std::alloc::{AllocError, Global};
 /// # Errors
 ///
 /// There are more than 32 bits tell, as in no firmware.
-fn counted(count: usize) -> Result<u32, AllocError>
+fn told_count(count: usize) -> Result<u32, AllocError>
     ensures { IfOk result (λ n. n ≡ count) }
 {
     match u32::try_from(count) {
@@ -46,7 +46,7 @@ fn put_compartments(
 fn put_globals(text: &mut Text, subject: &Subject<'_>) -> Result<(), AllocError>
     ensures { OnOk result (text.new ≡ text.old ++ lines.all_global_lines (subject_of subject.now)) }
 {
-    for global in 0..counted(subject.program.globals.len())? {
+    for global in 0..told_count(subject.program.globals.len())? {
         put_global(text, subject, global)?;
     }
     Ok(())
@@ -57,7 +57,7 @@ fn put_globals(text: &mut Text, subject: &Subject<'_>) -> Result<(), AllocError>
 fn put_periphs(text: &mut Text, subject: &Subject<'_>) -> Result<(), AllocError>
     ensures { OnOk result (text.new ≡ text.old ++ lines.all_periph_lines (subject_of subject.now)) }
 {
-    for periph in 0..counted(subject.program.periphs.len())? {
+    for periph in 0..told_count(subject.program.periphs.len())? {
         put_periph(text, subject, periph)?;
     }
     Ok(())
@@ -83,7 +83,7 @@ fn put_all_exposures(
 fn put_calls(text: &mut Text, subject: &Subject<'_>) -> Result<(), AllocError>
     ensures { OnOk result (text.new ≡ text.old ++ lines.all_call_lines (subject_of subject.now)) }
 {
-    for caller in 0..counted(subject.needs.funcs.len())? {
+    for caller in 0..told_count(subject.needs.funcs.len())? {
         put_caller(text, subject, caller)?;
     }
     Ok(())

@@ -59,7 +59,8 @@ fn lines_of(
 ///
 /// # Errors
 ///
-/// There is no memory, a limit of what is compiled is passed, or the blocks have more bytes than a memory of the board.
+/// There is no memory, a limit of what is compiled is passed, an address that the firmware asks for is one that the board denies, or the
+/// blocks have more bytes than a memory of the board.
 pub fn owners_of(
     alloc: Global,
     firmware: &Checked,

@@ -77,7 +77,7 @@ pub fn is_tied(subject: &Subject<'_>, tie: Tie, compartment: u32) -> bool
     }
 }
 
-/// Whether a function of a compartment writes a global; for loads, or reads it.
+/// Whether a function of a compartment writes a global, or, for loads, writes or reads it.
 pub fn is_needed(subject: &Subject<'_>, compartment: u32, access: Access, global: u32) -> bool
     ensures { result ≡ exposed.is_needed (subject_of subject.now) compartment access global }
 {

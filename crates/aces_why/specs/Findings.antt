@@ -34,7 +34,7 @@ exits_of bs = map (λ (b : NumberedBlock). goes_to b.term) bs
 abbrev pub callees_of : List FuncNeed → List (List ℕ)
 callees_of ns = map (λ (n : FuncNeed). n.callees) ns
 
--- by sets of objects: what the functions need on an open board, the objects of all registers, the functions that calls lead to from
+-- what is found by sets of objects: what the functions need on an open board, the objects of all registers, the functions that calls lead to from
 -- `main`, it among them, and the blocks of each function that are reached from its first, it among them
 pub record AreFindings (p : Program) (S : ObjectSets) (found : Findings) : Type 0 where
   pub needs : AreNeeds p S false found.needs
@@ -44,7 +44,7 @@ pub record AreFindings (p : Program) (S : ObjectSets) (found : Findings) : Type 
   pub flags : length found.entered ≡ length p.funcs
   pub entered : (f : ℕ) → f < length p.funcs → AreReached (exits_of (func_at p f).blocks) 0 (get_or found.entered f [])
 
--- by the least sets
+-- what is found by the least sets
 pub record AreFindingsOf (p : Program) (found : Findings) : Type 0 where
   pub objects : ObjectSets
   pub least : IsLeast p objects

@@ -41,7 +41,7 @@ targets_of s f r = filter (is_target s.program f r) (objects_of s f r)
 
 -- ---- lines
 
--- of what stands at a place, with the objects that it may reach
+-- the line of what stands at a place, with the objects that it may reach
 abbrev pub use_line : Subject → (word : List ℕ) → (func block inst : ℕ) → List ObjId → List ℕ
 use_line s word f b k os = word ++ place_text s.firmware f b k ++ objects_text s.firmware os ++ line_feed
 

@@ -1,4 +1,4 @@
--- What is told of: a firmware by its names and by its numbers, and what was found of it.
+-- The subject of the lines: a firmware by its names and by its numbers, and what was found of it.
 use Rattle.std.specs.Prelude.{ℕ, List, [], get_or}
 use Rattle.ir_model.specs.declared.object.ObjId.{ObjId}
 use Rattle.ir_model.specs.Plain.{PlainFirmware, firmware_of}

@@ -12,7 +12,7 @@ ghost use Rattle.aces_why.specs.Reached.{AreReached};
 ghost use Rattle.needs.specs.Bounds.{HasSmallNumbers};
 ghost use Rattle.aces_why.specs.Findings as found;
 
-use crate::reached;
+use crate::reached_flags;
 use crate::subject::Findings;
 use base_lists::ListVec;
 use ir_laws::limits::counts;
@@ -103,11 +103,11 @@ fn callees(alloc: Global, needs: &[FuncNeed]) -> Result<Vec<ListVec<usize>>, All
 }
 
 /// For each function, whether it is `main` or calls lead to it from there.
-fn called(alloc: Global, main: usize, needs: &[FuncNeed]) -> Result<Vec<bool>, AllocError>
+fn called_flags(alloc: Global, main: usize, needs: &[FuncNeed]) -> Result<Vec<bool>, AllocError>
     ensures { IfOk result (λ flags. AreReached (found.callees_of needs.now) main flags.items) }
 {
     let callees = callees(alloc, needs)?;
-    reached(alloc, callees.as_slice(), main)
+    reached_flags(alloc, callees.as_slice(), main)
 }
 
 /// The blocks to which the end of a block may go.
@@ -133,11 +133,11 @@ fn all_exits(alloc: Global, blocks: &[Sequence]) -> Result<Vec<ListVec<usize>>, 
 }
 
 /// For each block of a function, whether it is the first or is reached from there.
-fn entered(alloc: Global, blocks: &[Sequence]) -> Result<Vec<bool>, AllocError>
+fn entered_flags(alloc: Global, blocks: &[Sequence]) -> Result<Vec<bool>, AllocError>
     ensures { IfOk result (λ flags. (ks : List Known) → AreReached (found.exits_of (map (sequence_of ks) blocks.now)) 0 flags.items) }
 {
     let exits = all_exits(alloc, blocks)?;
-    reached(alloc, exits.as_slice(), 0)
+    reached_flags(alloc, exits.as_slice(), 0)
 }
 
 /// For each function and each of its blocks, whether that is the first or is reached from there.
@@ -149,7 +149,7 @@ fn all_entered(alloc: Global, program: &Program) -> Result<Vec<ListVec<bool>>, A
     let funcs = program.funcs.as_slice();
     for func in 0..funcs.len() {
         let blocks = funcs[func].blocks.as_slice();
-        all.push(ListVec::new(entered(alloc, blocks)?))?;
+        all.push(ListVec::new(entered_flags(alloc, blocks)?))?;
     }
     Ok(all)
 }
@@ -163,7 +163,7 @@ fn found_by(alloc: Global, program: &Program, sets: &PointsTo) -> Result<Finding
 {
     let needs = needs(alloc, program, sets, false)?;
     let objects = all_objects(alloc, program, sets)?;
-    let called = called(alloc, program.main as usize, needs.funcs.as_slice())?;
+    let called = called_flags(alloc, program.main as usize, needs.funcs.as_slice())?;
     let entered = all_entered(alloc, program)?;
     Ok(Findings {
         needs,

@@ -13,4 +13,4 @@ mod telling;
 mod uses;
 mod warnings;
 
-pub use search::reached;
+pub use search::reached_flags;

@@ -58,7 +58,7 @@ fn row(next: &[ListVec<usize>], number: usize) -> &[usize]
 /// # Errors
 ///
 /// There is no memory for it.
-pub fn reached(
+pub fn reached_flags(
     alloc: Global,
     next: &[ListVec<usize>],
     first: usize,

@@ -1,4 +1,4 @@
-//! What is told of.
+//! The subject of the lines: a firmware with what was found of it.
 
 use base_lists::ListVec;
 use ir_model::firmware::Firmware;

@@ -13,7 +13,7 @@ pub signed : (word : List ℕ) → 1 ≤ length word → get_or word 0 0 ≡ 45 
 signed [] h e = let z : ⊥ = omega (arith, h) in absurd z
 signed (b ∷ bs) h e = ap (λ v. address_of (v ∷ bs)) e ∙ signed_alone bs
 
--- without one, it is a number as everywhere
+-- a word without a sign is an address where it is a number as firmware texts have it
 by_first : (b : ℕ) (bs : List ℕ) → nat_eq b 45 ≡ false → value_of (numeral (b ∷ bs)) ≡ address_of (b ∷ bs)
 unfolding numeral
 by_first b bs e = rw e refl

@@ -25,19 +25,19 @@ pub data Request : Type 0 where
   Check : (firmware : List ℕ) → Request
   -- tell what each access and call of a firmware may reach
   Why : (firmware : List ℕ) → Request
-  -- run the source of a firmware on a tape for at most so many steps, the compartments being those of a policy
+  -- run the source of a firmware on a tape for at most so many steps, in the compartments of a policy
   Source : (firmware : List ℕ) → Policy → (tape : List ℕ) → (steps : ℕ) → Request
-  -- tell where the source of a firmware stands after at most so many steps on a tape, the compartments being those of a policy
+  -- tell where the source of a firmware stands after at most so many steps on a tape, in the compartments of a policy
   Where : (firmware : List ℕ) → Policy → (tape : List ℕ) → (steps : ℕ) → Request
-  -- write the image of a firmware for a board, the compartments being those of a policy
+  -- write the image of a firmware for a board, in the compartments of a policy
   Compile : (firmware board : List ℕ) → Policy → (image : List ℕ) → Request
   -- list the compartments of a firmware on a board, by a policy
   Listing : (firmware board : List ℕ) → Policy → Request
-  -- bound what the calls of a firmware take of a board's stack, the compartments being those of a policy
+  -- bound what the calls of a firmware take of a board's stack, in the compartments of a policy
   Stack : (firmware board : List ℕ) → Policy → Request
   -- tell by which compartments each object of a firmware may be reached on a board, by a policy, and which need it
   Who : (firmware board : List ℕ) → Policy → Request
-  -- tell what lies where in the image of a firmware on a board, the compartments being those of a policy
+  -- tell what lies where in the image of a firmware on a board, in the compartments of a policy
   Symbols : (firmware board : List ℕ) → Policy → Request
   -- tell why a firmware is refused and what to do, or that it is not
   Explain : (firmware : List ℕ) → Request

@@ -19,7 +19,7 @@ pub fn sensor()
 {}
 
 /// A local that is lent to other compartments.
-pub fn lent()
+pub fn lent_local()
     ensures { ComputesLent }
 {}
 
@@ -29,6 +29,6 @@ pub fn table()
 {}
 
 /// Call sites, loans, sizes and places by needs, graph and plan.
-pub fn planned()
+pub fn planned_firmwares()
     ensures { ComputesPlanned }
 {}

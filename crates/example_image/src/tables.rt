@@ -4,7 +4,7 @@ ghost use Rattle.example_image.specs.LentTables.{ComputesLent};
 ghost use Rattle.example_image.specs.LoopTables.{ComputesLoop};
 
 /// A local that is lent to other compartments.
-pub fn lent()
+pub fn lent_local()
     ensures { ComputesLent }
 {}
 

@@ -1,4 +1,4 @@
--- Lent locals: `main` lends the address of a local through one function to another, which stores to it. And what is left
+-- Lent locals: `main` lends the address of a local through one function to another, which stores to it.
 use Rattle.std.proofs.Common.{refl}
 use Rattle.ir_model.specs.Typing.{fault_of, checks}
 use Rattle.ir_model.specs.Layout.{known, cell_at}

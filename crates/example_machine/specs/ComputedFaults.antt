@@ -78,7 +78,7 @@ pub record ComputesExceptions : Type 0 where
         loads = four 44 ∷ [];
         event = None;
       }
-  -- on the main stack, with a pad
+  -- SVC #0 on the main stack, with a pad
   pub calls_padded :
       turn by_mpu (board (0xDF00 ∷ [])) (machine (core 1 2 3 4 0x2000003C) privileged zeros)
       ≡ record {
@@ -151,7 +151,7 @@ pub record ComputesTests : Type 0 where
   pub unstacking :
       turn by_mpu (board (0x4770 ∷ [])) (machine (handler 0x20000010 0x20000020 0xFFFFFFFD) (in_handler (unprivileged closed)) (ram_with 8 (1 ∷ 2 ∷ 3 ∷ 4 ∷ 12 ∷ 0x35 ∷ 50 ∷ 0x01000000 ∷ []) 0))
       ≡ stops Unstacking (machine (handler 0x20000010 0x20000020 0xFFFFFFFD) (in_handler (unprivileged closed)) (ram_with 8 (1 ∷ 2 ∷ 3 ∷ 4 ∷ 12 ∷ 0x35 ∷ 50 ∷ 0x01000000 ∷ []) 0))
-  -- which a privileged thread may
+  -- a frame that a privileged thread may read
   pub unstacking_privileged :
       turn by_mpu (board (0x4770 ∷ [])) (machine (handler 0x20000010 0x20000020 0xFFFFFFFD) (record { handler = true; unprivileged = false; mpu = closed }) (ram_with 8 (1 ∷ 2 ∷ 3 ∷ 4 ∷ 12 ∷ 0x35 ∷ 50 ∷ 0xA1000000 ∷ []) 0))
       ≡ record {

@@ -1,5 +1,5 @@
 -- Beyond the program's claim: only laws, proofs and functions inside the tool cite this file.
--- Lent locals: `main` lends the address of a local through one function to another, which stores to it. And what is left
+-- Lent locals: `main` lends the address of a local through one function to another, which stores to it; and what is left
 -- of a local whose function has returned.
 use Rattle.std.specs.Prelude.{◌≡◌, [], ◌∷◌, Some, None, true, codes}
 use Rattle.ir_model.specs.declared.firmware.Inst.TheVariants as inst

@@ -98,7 +98,7 @@ pub record ComputesSpelling : Type 0 where
       ∷ codes "}"
       ∷ codes "}"
       ∷ [])
-  -- and those with numbers
+  -- each form with a number
   pub periph_text : line_bytes (periph_line 0 (periph (codes "P") 0x40000000 32)) ≡ codes "periph P " ++ (decimal 0x40000000 ++ (32 ∷ decimal 32 ++ (10 ∷ [])))
   pub array_text : line_bytes (global_line 0 (global (codes "c") (Array 2 U8) (Word 1 ∷ Word 0 ∷ [])))
       ≡ codes "global c : [ " ++ (decimal 2 ++ (codes " ] u8 = { " ++ (decimal 1 ++ (codes " , " ++ (decimal 0 ++ (codes " }" ++ (10 ∷ [])))))))

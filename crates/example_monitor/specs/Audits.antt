@@ -10,7 +10,7 @@ use Rattle.monitor_model.specs.FromFlash.{tables_of}
 use Rattle.monitor_model.specs.Sound.{Failure, first_failure}
 use Rattle.example_monitor.specs.LentImage.{area_words, image, image_with, flash_with, code}
 
--- of an image and the tables in its flash
+-- the first check that fails of an image and the tables in its flash
 abbrev pub audit_by : MonitorCode → Image → Option Failure
 audit_by c i = first_failure c i (tables_of c i)
 
@@ -20,14 +20,14 @@ audit i = audit_by code i
 abbrev pub fails : AuditCheck → (at : ℕ) → Option Failure
 fails c a = Some (record { check = c; at = a })
 
--- with another word, by its number, behind the page; and with another one behind that
+-- the image with another word, by its number, behind the page; and with another one behind that
 abbrev pub with_word : (number word : ℕ) → Image
 with_word k w = image_with (flash_with (set area_words k w))
 
 abbrev pub with_words : (number first second : ℕ) → Image
 with_words k w v = image_with (flash_with (set (set area_words k w) (k + 1) v))
 
--- with a range of RAM of two words, 7 and 8, that stand behind the record
+-- the image with a range of RAM of two words, 7 and 8, that stand behind the record
 abbrev pub with_init : (at end from : ℕ) → Image
 with_init a e f = image_with (flash_with (set area_words 4 1 ++ a ∷ e ∷ f ∷ 7 ∷ 8 ∷ []))
 

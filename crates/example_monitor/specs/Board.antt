@@ -17,7 +17,7 @@ use Rattle.example_monitor.specs.Sample.{region}
 abbrev pub instructions : List ℕ
 instructions = 0xDF00BF00 ∷ 0xDF010000 ∷ 0xDF03DF02 ∷ 0x6008DF04 ∷ 0x00006808 ∷ 0 ∷ 0 ∷ 0 ∷ []
 
--- of the compartments, the site, its target and the lendable local of the sample with four slots
+-- the records of the compartments, the site, its target and the lendable local of the sample with four slots
 abbrev pub records : List ℕ
 records =
     0x08002012 ∷ 0x0602000F ∷ 0x20000614 ∷ 0x13060009 ∷ 21 ∷ 0 ∷ 22 ∷ 0 ∷ 23 ∷ 0 ∷ 0 ∷ 0
@@ -50,7 +50,7 @@ does s c = effect by_mpu image s c
 abbrev pub ram : (block loans : List ℕ) → (psp : ℕ) → (frame : List ℕ) → List ℕ
 ram block loans psp frame = write_all 4 (psp - 0x20000000) frame (write_all 4 160 loans (write_all 4 0 block (replicate 1568 0)))
 
--- Handler mode on the main stack, the thread being unprivileged; the protection unit is on
+-- Handler mode on the main stack; the thread is unprivileged, and the protection unit is on
 abbrev pub core : (cfsr psp : ℕ) → (ram : List ℕ) → Core
 core cfsr psp ram = record {
   low = 1 ∷ 2 ∷ 3 ∷ 4 ∷ 5 ∷ 6 ∷ 7 ∷ 8 ∷ [];

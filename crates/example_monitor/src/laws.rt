@@ -2,7 +2,7 @@
 
 ghost use Rattle.example_monitor.specs.LentImageLaws.{IsSound, HasStart, IsConfined, HasLaw};
 
-use crate::tables::joined;
+use crate::tables::sound_image;
 use monitor_laws::images::images_start;
 use monitor_sound::promises::{sound_images_are_confined, sound_images_serve_simulation};
 
@@ -14,7 +14,7 @@ pub fn the_laws_hold()
     ensures confined { IsConfined }
     ensures law { HasLaw }
 {
-    joined();
+    sound_image();
     images_start();
     sound_images_are_confined();
     sound_images_serve_simulation();

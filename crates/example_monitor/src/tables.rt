@@ -15,6 +15,6 @@ pub fn audits()
 {}
 
 /// The image of the firmware that lends a local, with the monitor's own code, and that it is sound.
-pub fn joined()
+pub fn sound_image()
     ensures { ComputesJoined }
 {}

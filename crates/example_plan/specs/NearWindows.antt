@@ -53,7 +53,7 @@ graph_of cs =
 abbrev pub far : Cover
 far = cover 0x40020000 64
 
--- in order of their bases
+-- the covers in order of their bases
 abbrev pub first : Graph
 first =
     graph_of

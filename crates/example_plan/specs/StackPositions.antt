@@ -9,7 +9,7 @@ use Rattle.plan_model.specs.declared.groups.Groups.{Groups}
 use Rattle.refine_model.specs.StackLimit.{position, limit_by, site_of, HaveRoom}
 use Rattle.example_plan.specs.Written.{need, site}
 
--- a function of so many registers that calls another, its first instruction being the call
+-- a function of so many registers that calls another by its first instruction
 abbrev pub calling : PlainTypes → List PlainType → (callee : ℕ) → NumberedFunc
 calling params regs callee =
     record {

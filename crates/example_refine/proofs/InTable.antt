@@ -66,7 +66,7 @@ in_table (MoveWide d value) e = let p = both (nat_lt d 13) (nat_lt value 65536) 
 in_table (MoveTop d value) e = let p = both (nat_lt d 13) (nat_lt value 65536) e in let l = ltb-true d 13 p.0 in ((omega arith, λ u. omega arith), ltb-true value 65536 p.1)
 in_table _ e = cc
 
--- of pieces without branches and words
+-- the instructions of pieces without branches and words are listed
 abbrev pub are_listed : List Item → Bool
 are_listed [] = true
 are_listed (Plain x ∷ more) = is_listed x && are_listed more

@@ -1,6 +1,6 @@
 -- Beyond the program's claim: only laws, proofs and functions inside the tool cite this file.
--- Two compartments of a closed board. `main` lends its local x to `writer`, which stores in it what the global has, and that in
--- a window, too; then `main` loads x.
+-- Two compartments of a closed board. `main` lends its local x to `writer`, which stores what the global has in x and in a window;
+-- then `main` loads x.
 use Rattle.std.specs.Prelude.{ℕ, zero, suc, List, [], ◌∷◌, ◌++◌, true, false, None, replicate}
 use Rattle.machine_devices.specs.declared.image.Image.{Image}
 use Rattle.ir_model.specs.declared.object.ObjId.TheVariants.{Global, Periph, Local}
@@ -142,7 +142,7 @@ tables = record {
   closed = true;
 }
 
--- of the monitor's code the place of the leave stub alone
+-- the monitor's code, of which only the place of the leave stub is given
 abbrev pub code : MonitorCode
 code = record { page = λ t. []; stub = λ t. 0x080003F0; main_entry_at = 0; main_compartment_at = 0 }
 

@@ -5,7 +5,7 @@ ghost use Rattle.example_refine.specs.Source.{IsItsSource};
 ghost use Rattle.example_refine.specs.TwoCompartments.{AreItsNeeds, IsLinkedBuild};
 
 /// Two compartments of a closed board, one of which lends a local to the other.
-pub fn lent()
+pub fn two_compartments()
     ensures source { IsItsSource }
     ensures needs { AreItsNeeds }
     ensures linked { IsLinkedBuild }

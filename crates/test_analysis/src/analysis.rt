@@ -64,7 +64,7 @@ fn answer(alloc: Global, words: &[String], files: &mut MemFiles) -> Result<Strin
     let Ok(checked) = check(alloc, firmware) else {
         bail!("not typed");
     };
-    analysed(alloc, &checked, words)
+    analysis_text(alloc, &checked, words)
 }
 
 /// The policy of a word; that of the files where it is none.
@@ -77,7 +77,7 @@ fn policy_of(word: &str) -> Policy {
 }
 
 /// The text of an analysis of a firmware: which, of which file, under which policy, on which board, in how many slots.
-fn analysed(alloc: Global, firmware: &Checked, words: &[String]) -> Result<String>
+fn analysis_text(alloc: Global, firmware: &Checked, words: &[String]) -> Result<String>
     requires { length words.now ≡ 5 }
 {
     if words[0].as_str() == "sets" {

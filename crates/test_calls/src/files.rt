@@ -160,7 +160,7 @@ fn sinks_take_what_has_room(rt: HostRuntime) -> Result<(), Fail> {
     Ok(())
 }
 
-/// Where no call is to fail, one on a name that is there doesn't.
+/// The size of a name that is there, where no call is to fail.
 fn size_of(files: &mut MemFiles, name: &str) -> u64
     requires none_fails { files.old.fails ≡ [] }
     requires there { IsSome (held files.old name.now) }

@@ -46,7 +46,7 @@ pub fn divide(
     let count: u32 = count.parse()?;
     let board = board_at(alloc, files, board)?;
     let firmware = firmware_at(alloc, files, firmware)?;
-    let made = divided(alloc, &firmware, &board, count);
+    let made = divided_image(alloc, &firmware, &board, count);
     put_made(files, image, made)
 }
 
@@ -69,7 +69,7 @@ pub fn replace(
     let code = bytes_of(alloc, files, code)?;
     let board = board_at(alloc, files, board)?;
     let firmware = firmware_at(alloc, files, firmware)?;
-    let made = replaced(alloc, &firmware, &board, compartment, &code);
+    let made = replaced_image(alloc, &firmware, &board, compartment, &code);
     put_made(files, image, made)
 }
 
@@ -111,7 +111,7 @@ fn text_of(alloc: Global, image: &Image) -> Result<Vec<u8>>
 }
 
 /// The text of the image of a checked firmware.
-fn divided(alloc: Global, firmware: &Checked, board: &Board, count: u32) -> Result<Vec<u8>>
+fn divided_image(alloc: Global, firmware: &Checked, board: &Board, count: u32) -> Result<Vec<u8>>
     requires { IsBoard board.now }
 {
     let analysis = analyse(alloc, firmware, Policy::Filename, board.closed)?;
@@ -153,7 +153,7 @@ fn divided_by(
 }
 
 /// The text of the image of a checked firmware with this code in a compartment.
-fn replaced(
+fn replaced_image(
     alloc: Global,
     firmware: &Checked,
     board: &Board,

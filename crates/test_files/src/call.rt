@@ -30,7 +30,7 @@ pub(crate) enum Wanted {
     Whole(Vec<u8>),
     /// These from a place on, and any others.
     Part(usize, Vec<u8>),
-    /// So many.
+    /// Any bytes of this number.
     Size(usize),
 }
 

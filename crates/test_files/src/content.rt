@@ -32,7 +32,7 @@ impl Edit {
             "upto" => upto(rest),
             "cut" => cut(rest),
             "put" => put(alloc, rest),
-            "as" => add(copied_from(alloc, rest, places)),
+            "as" => add(copy_from(alloc, rest, places)),
             _ => Edit::of_mark(alloc, mark, rest),
         }
     }
@@ -40,8 +40,8 @@ impl Edit {
     /// The edit that adds the bytes that a mark and what stands behind it make, if it is the mark of one.
     fn of_mark(alloc: Global, mark: &str, rest: &str) -> Result<Option<Edit>> {
         match mark {
-            "|" => add(repeated(alloc, 0, 0, rest)),
-            "+" => add(copied(alloc, rest.as_bytes())),
+            "|" => add(repeated_lines(alloc, 0, 0, rest)),
+            "+" => add(copy_of(alloc, rest.as_bytes())),
             "bytes" => add(numbers(alloc, rest, 1)),
             "halves" => add(numbers(alloc, rest, 2)),
             "words" => add(numbers(alloc, rest, 4)),
@@ -163,11 +163,11 @@ fn add_low_bytes(all: &mut Vec<u8>, number: u32, width: u32) -> Result<u32> {
 fn repeated_between(alloc: Global, text: &str) -> Result<Vec<u8>> {
     let (first, rest) = number_and_rest(text)?;
     let (last, line) = number_and_rest(rest)?;
-    repeated(alloc, first, last, line)
+    repeated_lines(alloc, first, last, line)
 }
 
 /// A line of a text for each number from the first to the last, which stands in it for each `%`. A single line is left as it is.
-fn repeated(alloc: Global, first: usize, last: usize, text: &str) -> Result<Vec<u8>> {
+fn repeated_lines(alloc: Global, first: usize, last: usize, text: &str) -> Result<Vec<u8>> {
     let mut all = Vec::new(alloc);
     add_lines(alloc, &mut all, first, last, text)?;
     Ok(all)
@@ -209,16 +209,16 @@ fn add_decimal(alloc: Global, all: &mut Vec<u8>, number: usize) -> Result<()> {
     Ok(())
 }
 
-fn copied(alloc: Global, bytes: &[u8]) -> Result<Vec<u8>> {
+fn copy_of(alloc: Global, bytes: &[u8]) -> Result<Vec<u8>> {
     Ok(bytes.to_vec(alloc)?)
 }
 
-fn copied_from(alloc: Global, name: &str, places: &[&[Section]]) -> Result<Vec<u8>> {
-    copied(alloc, known(name, places)?)
+fn copy_from(alloc: Global, name: &str, places: &[&[Section]]) -> Result<Vec<u8>> {
+    copy_of(alloc, bytes_named(name, places)?)
 }
 
 /// The bytes of the file or the text of this name.
-fn known<'a>(name: &str, places: &[&'a [Section]]) -> Result<&'a [u8]> {
+fn bytes_named<'a>(name: &str, places: &[&'a [Section]]) -> Result<&'a [u8]> {
     for sections in places {
         if let Some(content) = content_of(sections, name) {
             return Ok(content);

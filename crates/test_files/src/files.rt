@@ -14,11 +14,11 @@ const MOST: u64 = 4_194_304;
 /// They differ, or one of them is not read.
 pub fn same(alloc: Global, files: &mut MemFiles, file: &str, other: &str) -> Result<()> {
     let one = bytes_of(alloc, files, file)?;
-    holds(alloc, files, other, &one)
+    compare_content(alloc, files, other, &one)
 }
 
 /// Compares what a file holds with these bytes.
-fn holds(alloc: Global, files: &mut MemFiles, name: &str, wanted: &[u8]) -> Result<()> {
+fn compare_content(alloc: Global, files: &mut MemFiles, name: &str, wanted: &[u8]) -> Result<()> {
     let bytes = bytes_of(alloc, files, name)?;
     compare(&bytes, wanted)
 }

@@ -96,7 +96,7 @@ fn add_held<'a>(
 ) -> Result<()> {
     for name in names {
         let name = name.as_str();
-        let bytes = copied(alloc, files.held(name))?;
+        let bytes = copy_of(alloc, files.held(name))?;
         known.push(Before { name, bytes })?;
     }
     Ok(())
@@ -162,7 +162,7 @@ fn compare_printed(call: &Call, status: u8, out: &[u8], err: &[u8]) -> Result<()
     Ok(())
 }
 
-fn copied(alloc: Global, bytes: Option<&[u8]>) -> Result<Option<Vec<u8>>> {
+fn copy_of(alloc: Global, bytes: Option<&[u8]>) -> Result<Option<Vec<u8>>> {
     match bytes {
         Some(bytes) => Ok(Some(bytes.to_vec(alloc)?)),
         None => Ok(None),
@@ -201,7 +201,7 @@ fn compare_file(
         return Ok(());
     }
     ensure!(told, "{name} has changed");
-    before.bytes = copied(alloc, bytes)?;
+    before.bytes = copy_of(alloc, bytes)?;
     Ok(())
 }
 
@@ -210,7 +210,7 @@ fn is_told(name: &str, bytes: Option<&[u8]>, held: &[Held]) -> Result<bool> {
     let mut told = false;
     for fact in held {
         if fact.name.as_str() == name {
-            ensure!(holds(bytes, &fact.wanted), "{name} is not as wanted");
+            ensure!(is_wanted(bytes, &fact.wanted), "{name} is not as wanted");
             told = true;
         }
     }
@@ -225,7 +225,7 @@ fn is_same(bytes: Option<&[u8]>, old: &Option<Vec<u8>>) -> bool {
     }
 }
 
-fn holds(bytes: Option<&[u8]>, wanted: &Wanted) -> bool {
+fn is_wanted(bytes: Option<&[u8]>, wanted: &Wanted) -> bool {
     let Some(bytes) = bytes else {
         return false;
     };

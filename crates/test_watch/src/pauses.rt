@@ -64,7 +64,7 @@ fn board(rt: &impl Abort, alloc: Global) -> Result<Image, AllocError>
 }
 
 /// The load of a word.
-const fn loaded(value: u32) -> Event {
+const fn load_event(value: u32) -> Event {
     Event {
         compartment: 0,
         periph: 0,
@@ -76,7 +76,7 @@ const fn loaded(value: u32) -> Event {
 }
 
 /// The store that writes it back.
-const fn stored(value: u32) -> Event {
+const fn store_event(value: u32) -> Event {
     Event {
         compartment: 0,
         periph: 0,
@@ -129,14 +129,21 @@ fn pauses_at_each_store(rt: HostRuntime) -> Result<(), Fail> {
         ensures { result ≡ event.now.write }
     { event.write };
     let mut watched = Session::start(rt.alloc(), &image, tape, 0xA5, Watch::new(stores))?;
-    let first = [Some(loaded(10)), Some(stored(10))];
-    goes(&rt, &mut watched, 200_000, Pause::Hit(stored(10)), first, 4);
-    let second = [Some(loaded(40)), Some(stored(40))];
+    let first = [Some(load_event(10)), Some(store_event(10))];
     goes(
         &rt,
         &mut watched,
         200_000,
-        Pause::Hit(stored(40)),
+        Pause::Hit(store_event(10)),
+        first,
+        4,
+    );
+    let second = [Some(load_event(40)), Some(store_event(40))];
+    goes(
+        &rt,
+        &mut watched,
+        200_000,
+        Pause::Hit(store_event(40)),
         second,
         7,
     );
@@ -148,10 +155,17 @@ fn pauses_at_each_store(rt: HostRuntime) -> Result<(), Fail> {
         [None, None],
         7,
     );
-    let loads = [Some(loaded(33)), None];
+    let loads = [Some(load_event(33)), None];
     goes(&rt, &mut watched, 2, Pause::Ended(End::Limit), loads, 9);
-    let stores = [Some(stored(33)), None];
-    goes(&rt, &mut watched, 1, Pause::Hit(stored(33)), stores, 10);
+    let stores = [Some(store_event(33)), None];
+    goes(
+        &rt,
+        &mut watched,
+        1,
+        Pause::Hit(store_event(33)),
+        stores,
+        10,
+    );
     let end = Pause::Ended(End::InputEnd);
     goes(&rt, &mut watched, 200_000, end, [None, None], 12);
     goes(&rt, &mut watched, 200_000, end, [None, None], 12);

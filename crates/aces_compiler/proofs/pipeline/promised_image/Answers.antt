@@ -15,7 +15,7 @@ returns c =
     let b = c.args.board.now in
     let made = c.args.planned.now in
     let groups = made.graph.groups in
-    let all = c.promised.ensures in
+    let all = c.all_promises.ensures in
     let is =
     is_planned w n b groups made c.requires.planned all.serve c.firmware.ensures.typed c.firmware.ensures.within c.requires.needs c.requires.board c.requires.groups in
     is_image w n b groups made c.requires.planned is c.requires.needs all c.in_ok-image.image c.in_ok-image.ensures

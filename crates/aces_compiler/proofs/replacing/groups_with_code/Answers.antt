@@ -22,7 +22,7 @@ returns-in_default-clause-refused c =
     let made = c.in-Ok.made in
     let planned = c.in-Ok.ensures.ok in
     let are = subst (AreCompartments (resolve w)) (sym planned.groups) c.requires.groups in
-    let is = is_planned w n b groups made planned c.promised.ensures.serve c.firmware.ensures.typed c.firmware.ensures.within c.requires.needs c.requires.board are in
+    let is = is_planned w n b groups made planned c.all_promises.ensures.serve c.firmware.ensures.typed c.firmware.ensures.within c.requires.needs c.requires.board are in
     beyond w n b groups made planned is c.args.compartment c.as_slice.result.now c.as_slice.ensures c.in_default.ensures.lookup.3
 
 pub returns-then-code-spot-clause-refused : goal.returns-then-code-spot-clause-refused
@@ -34,7 +34,7 @@ returns-then-code-spot-clause-refused c =
     let made = c.in-Ok.made in
     let planned = c.in-Ok.ensures.ok in
     let are = subst (AreCompartments (resolve w)) (sym planned.groups) c.requires.groups in
-    let is = is_planned w n b groups made planned c.promised.ensures.serve c.firmware.ensures.typed c.firmware.ensures.within c.requires.needs c.requires.board are in
+    let is = is_planned w n b groups made planned c.all_promises.ensures.serve c.firmware.ensures.typed c.firmware.ensures.within c.requires.needs c.requires.board are in
     let found = c.in-Some.ensures.lookup in
     too_long w n b groups made planned is c.args.compartment c.args.code.now c.in-Some.spot.now c.as_slice.result.now c.as_slice.ensures found.3.0 found.3.1 c.if-code-spot.true
 
@@ -47,8 +47,8 @@ returns-clause-ok c =
     let made = c.in-Ok.made in
     let planned = c.in-Ok.ensures.ok in
     let are = subst (AreCompartments (resolve w)) (sym planned.groups) c.requires.groups in
-    let is = is_planned w n b groups made planned c.promised.ensures.serve c.firmware.ensures.typed c.firmware.ensures.within c.requires.needs c.requires.board are in
+    let is = is_planned w n b groups made planned c.all_promises.ensures.serve c.firmware.ensures.typed c.firmware.ensures.within c.requires.needs c.requires.board are in
     let found = c.in-Some.ensures.lookup in
-    let all = c.promised.ensures in
+    let all = c.all_promises.ensures in
     with_code w n b groups made planned is c.args.compartment c.args.code.now c.in-Some.spot.now c.as_slice.result.now c.as_slice.ensures found.3.0 found.3.1 c.if-code-spot.false
     all.kept all.rules_stay all.keep all.stay_isolated all.rules all.board c.in_ok-image.image c.in_ok-with_block.field-0 c.in_ok-image.ensures c.in_ok-with_block.ensures

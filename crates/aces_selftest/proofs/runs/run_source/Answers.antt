@@ -10,8 +10,8 @@ use Rattle.aces_selftest.specs.Counts.{IsSourceCount}
 use Rattle.aces_selftest.specs.Answers.{source_limit}
 use Rattle.aces_selftest.proofs.runs.run_source.Goals as goal
 
-pub counted-requires-clause-checked : goal.counted-requires-clause-checked
-counted-requires-clause-checked c =
+pub count_of_run-requires-clause-checked : goal.count_of_run-requires-clause-checked
+count_of_run-requires-clause-checked c =
     record {
       firmware = firmware_of c.args.firmware.now;
       typed = c.firmware.ensures.typed;
@@ -19,8 +19,8 @@ counted-requires-clause-checked c =
       is = ap program_of c.into_parts-program.ensures.program ∙ c.in_ok-analysis.ensures.exact.program;
     }
 
-pub counted-requires-clause-counts : goal.counted-requires-clause-counts
-counted-requires-clause-counts c = subst HasCounts (sym c.into_parts-program.ensures.program) c.in_ok-analysis.ensures.exact.counts
+pub count_of_run-requires-clause-counts : goal.count_of_run-requires-clause-counts
+count_of_run-requires-clause-counts c = subst HasCounts (sym c.into_parts-program.ensures.program) c.in_ok-analysis.ensures.exact.counts
 
 pub returns : goal.returns
 returns c =

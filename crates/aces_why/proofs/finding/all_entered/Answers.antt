@@ -22,7 +22,7 @@ loop-func-preserved c =
     record {
       count = ap length e ∙ (length_push c.loop-func.all.items _ ∙ ap (λ n. n + 1) v.count);
       each = each_pushed (λ g flags. AreReached (exits_of (func_at p g).blocks) 0 flags) [] c.loop-func.all.items c.push.new.self.items c.new.result f e v.count v.each
-          (subst (λ xs. AreReached xs 0 c.new.result) (sym b) (subst (AreReached (exits_of (routine_of ks c.index-funcs-func.result).blocks) 0) (sym c.new.ensures) (rw (c.as_slice-blocks.ensures, sym c.index-funcs-func.is) at (c.in_ok-entered.ensures ks))));
+          (subst (λ xs. AreReached xs 0 c.new.result) (sym b) (subst (AreReached (exits_of (routine_of ks c.index-funcs-func.result).blocks) 0) (sym c.new.ensures) (rw (c.as_slice-blocks.ensures, sym c.index-funcs-func.is) at (c.in_ok-entered_flags.ensures ks))));
     }
 
 pub returns-clause-count : goal.returns-clause-count

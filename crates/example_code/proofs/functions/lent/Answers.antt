@@ -1,5 +1,0 @@
-use Rattle.example_code.proofs.Lent.{computes_lent}
-use Rattle.example_code.proofs.functions.lent.Goals as goal
-
-pub returns : goal.returns
-returns c = computes_lent

@@ -1,5 +1,0 @@
-use Rattle.example_image.proofs.Computed.{computes_lent}
-use Rattle.example_image.proofs.tables.lent.Goals as goal
-
-pub returns : goal.returns
-returns c = computes_lent

@@ -1,5 +1,0 @@
-use Rattle.example_monitor.proofs.Joined.{computes_joined}
-use Rattle.example_monitor.proofs.tables.joined.Goals as goal
-
-pub returns : goal.returns
-returns c = computes_joined
