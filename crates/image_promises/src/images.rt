@@ -40,7 +40,7 @@ pub fn sound()
 }
 
 /// It is confined: from whatever a reset leaves, for every recorded input.
-pub fn confined()
+pub fn confined_images()
     ensures { PlannedImagesAreConfined }
 {
     sound();
@@ -49,7 +49,7 @@ pub fn confined()
 }
 
 /// It keeps what the linker promises the simulation of its runs.
-pub fn linked()
+pub fn linked_images()
     ensures { PlannedImagesAreLinked }
 {
     images();
@@ -66,7 +66,7 @@ pub fn linked()
 }
 
 /// It refines its firmware.
-pub fn refined()
+pub fn refined_images()
     ensures { PlannedImagesRefine }
 {
     flash();
@@ -74,7 +74,7 @@ pub fn refined()
     places();
     sound();
     images();
-    linked();
+    linked_images();
     ranges();
     kind();
     sound_images_serve_simulation();
@@ -82,12 +82,12 @@ pub fn refined()
 }
 
 /// However much stack its frames take, it refines its firmware or stops for want of stack, where the law of the stack holds.
-pub fn refined_or_stopped()
+pub fn refined_or_stopped_images()
     ensures { PlannedImagesRefineOrStop }
 {
     sound();
     images();
-    linked();
+    linked_images();
     ranges();
     kind();
     sound_images_serve_simulation();

@@ -30,7 +30,7 @@ pub fn devices()
 
 /// Where a planned firmware asks for no address that is denied, none is loaded or stored for a compartment in any run of its image, whatever
 /// bytes stand in flash behind the tables.
-pub fn denied()
+pub fn planned_runs_keep_off()
     ensures { PlannedRunsKeepOff }
 {
     flash();

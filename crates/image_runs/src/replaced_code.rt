@@ -21,7 +21,7 @@ use monitor_sound::promises::sound_images_are_confined;
 use plan_layout_laws::{flash, places, ram};
 
 /// The tables of a planned image end in front of the code of each compartment.
-pub fn kept()
+pub fn code_keeps_tables()
     ensures { CodeKeepsTables }
 {
     flash();

@@ -70,7 +70,7 @@ fn failure_behind(
 /// # Errors
 ///
 /// Only for want of memory.
-pub fn audited(alloc: Global, image: &Image) -> Result<Audited, AllocError>
+pub fn audited_tables(alloc: Global, image: &Image) -> Result<Audited, AllocError>
     requires { ObeysRules image.now }
     ensures { IfOk result (IsAudited image.now) }
 {
@@ -116,7 +116,7 @@ pub fn audit(alloc: Global, image: &Image) -> Result<Audit, AllocError>
     ensures confined { IfOk result (IsConfinedWhereYes image.now) }
 {
     sound_images_are_confined();
-    match audited(alloc, image)? {
+    match audited_tables(alloc, image)? {
         Audited::Sound(tables) => Ok(yes(&tables)),
         Audited::Unsound(failed) => Ok(Audit::No {
             check: failed.check,

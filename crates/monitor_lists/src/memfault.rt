@@ -6,7 +6,7 @@ ghost use Rattle.monitor_program.specs.MemFault as handler;
 ghost use Rattle.monitor_lists.specs.Made.{Appends, Ends, constants_of};
 
 use crate::halts::{HALT_FAULT, HALT_LOAD, HALT_STORE};
-use crate::opening::{closed_up, opened, record_of};
+use crate::opening::{close_handler, open_handler, record_of};
 use crate::values::{LOAN_SIZE, MOST_LOANS, REFUSED_ACCESS};
 use crate::{Numbers, StepList};
 use base_words::memory::Width;
@@ -196,7 +196,7 @@ fn finished(list: &mut StepList) -> Result<(), AllocError>
     list.constant(4, CFSR)?;
     list.load_word(5, 4, 0)?;
     list.store_word(5, 4, 0)?;
-    closed_up(list)?;
+    close_handler(list)?;
     Ok(())
 }
 
@@ -266,7 +266,7 @@ pub fn handler(alloc: Global, c: &Numbers) -> Result<StepList, AllocError>
 {
     let other = loads(alloc, c)?;
     let mut list = StepList::new(alloc);
-    opened(&mut list, c)?;
+    open_handler(&mut list, c)?;
     fault_asked(&mut list)?;
     widths(&mut list, 0x6008, 0x7008, 0x8008, other)?;
     stores(&mut list, c)?;

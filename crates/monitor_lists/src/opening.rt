@@ -57,7 +57,7 @@ fn status_test(list: &mut StepList) -> Result<(), AllocError>
 }
 
 /// What both handlers begin with: the protection unit is off, and the three tests of the stack.
-pub fn opened(list: &mut StepList, c: &Numbers) -> Result<(), AllocError>
+pub fn open_handler(list: &mut StepList, c: &Numbers) -> Result<(), AllocError>
     ensures { OnOk result (Appends list.old list.new (opening.opened (constants_of c.now))) }
 {
     set_control(list, 6, 7, UNIT_OFF)?;
@@ -67,7 +67,7 @@ pub fn opened(list: &mut StepList, c: &Numbers) -> Result<(), AllocError>
 }
 
 /// What both handlers end with: the protection unit is on, and the exception return.
-pub fn closed_up(list: &mut StepList) -> Result<(), AllocError>
+pub fn close_handler(list: &mut StepList) -> Result<(), AllocError>
     ensures { OnOk result (Ends list.old list.new opening.closed_up) }
 {
     set_control(list, 6, 7, UNIT_ON)?;

@@ -16,7 +16,7 @@ use monitor_laws::images::{images_start, sound_images_are_placed};
 use monitor_sound::promises::handlers_keep_the_law;
 
 /// The words of a block in RAM have one block.
-pub fn blocks()
+pub fn monitor_blocks()
     ensures { BlocksAreOne }
 {}
 
