@@ -13,7 +13,7 @@ use Rattle.image_promises.specs.Laws.{OfPlanned}
 abbrev pub WordsFit : Type 0
 WordsFit = OfPlanned (λ i t. Each (λ w. w < 2 ^ 32) (area t))
 
--- so behind the page, flash has them as they are
+-- flash has the words of the tables behind the page, as they are
 abbrev pub WordsStand : Type 0
 WordsStand = OfPlanned (λ i t. (k : ℕ) → k < length (area t) → read 4 (page_size + 4 * k) i.flash ≡ slice_index (area t) k)
 

@@ -11,7 +11,7 @@ use plan_layout_laws::{ram, stack};
 use refine::never_wrong::never_wrong;
 use refine::overruns::guards_serve;
 
-/// Where no data region has a byte in the guard below the stack, no compartment may store there.
+/// No compartment may store in the guard below the stack, where no data region has a byte in it.
 pub fn guarded_plans()
     ensures { GuardedPlansGuard }
 {

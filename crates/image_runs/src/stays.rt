@@ -41,7 +41,7 @@ pub fn starts()
     images_start();
 }
 
-/// Whenever a compartment's instruction comes next, the invariant holds.
+/// The invariant holds whenever a compartment's instruction comes next.
 pub fn invariant()
     ensures { PlannedImagesKeepTheInvariant }
 {

@@ -104,8 +104,8 @@ fn yes(tables: &Tables) -> Audit
     }
 }
 
-/// Whether an image is sound: its flash has the monitor's code with tables of which none of the seven checks fails. Where it is, it is
-/// confined by these tables, whoever made it.
+/// Whether an image is sound: its flash has the monitor's code with tables of which none of the seven checks fails. A sound
+/// image is confined by these tables, whoever made it.
 ///
 /// # Errors
 ///

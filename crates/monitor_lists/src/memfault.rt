@@ -17,7 +17,7 @@ use monitor_model::places::{
 use monitor_steps::{PrivilegedCond, PrivilegedOp};
 use std::alloc::{AllocError, Global};
 
-/// Where the halfword in r4 is this one, a width into r6, by r5; else another list.
+/// A test of the halfword in r4: a width into r6, by r5, where it is this one, and else another list.
 fn on_half(list: &mut StepList, half: u32, width: u32, other: StepList) -> Result<(), AllocError>
     ensures { OnOk result (Appends list.old list.new (handler.on_half half width (steps_of other.steps.items))) }
 {

@@ -342,7 +342,7 @@ fn svc_number(list: &mut StepList) -> Result<(), AllocError>
     Ok(())
 }
 
-/// Where the number in r5 is this one, a list, which ends the handler.
+/// A test of the number in r5: where it is this one, a list, which ends the handler.
 fn on_number(list: &mut StepList, number: u32, chosen: StepList) -> Result<(), AllocError>
     ensures { OnOk result (Appends list.old list.new (handler.on_number number (steps_of chosen.steps.items))) }
 {

@@ -32,13 +32,13 @@ pub record IsMemory (i : Image) (t : Tables) (from : ℕ) (memory ram : List ℕ
 pub record IsLeft (i : Image) (t : Tables) (m b : MonitorBlock) (memory : List ℕ) (u : State) : Type 0 where
   pub is_block : IsBlock i t u.ram b
   pub is_memory : IsMemory i t 0 memory u.ram
-  -- where the block stays, so do all its words, those too that no entry and no loan has; behind them the monitor has its stack
+  -- all words of the block stay where the block stays, those too that no entry and no loan has; behind them the monitor has its stack
   pub words_stay : b ≡ m → IsMemory i t words_end memory u.ram
 
 -- the thread behind the return
 pub record GoesOn (i : Image) (t : Tables) (s u : State) (m b : MonitorBlock) (psp : ℕ) (memory : List ℕ) : Type 0 where
   pub is_left : IsLeft i t m b memory u
-  -- its registers are those of the frame, the others the handler's; that one's stack is empty
+  -- its registers are those of the frame, and the others are the handler's, whose stack is empty
   pub handler : CoreRegisters
   pub core : u.core ≡ unstacked true handler psp (frame_in i psp memory)
   pub msp : handler.sp ≡ t.monitor + block_size
@@ -54,7 +54,7 @@ pub record GoesOn (i : Image) (t : Tables) (s u : State) (m b : MonitorBlock) (p
   pub queues : u.queues ≡ s.queues
   pub ending : u.ending ≡ None
 
--- the machine has ended in the handler, RAM being left so
+-- the machine has ended in the handler, and this is what is left of RAM
 pub record EndsThere (i : Image) (t : Tables) (m b : MonitorBlock) (memory : List ℕ) (u : State) (e : End) : Type 0 where
   pub ended : HasEndedInHandler u e
   pub is_left : IsLeft i t m b memory u

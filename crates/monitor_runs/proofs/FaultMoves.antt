@@ -115,7 +115,7 @@ module _ (laws : FrameLaws) (i : Image) (t : Tables) (p : Placed i t) (s u : Sta
       left_of true y e = refl
       left_of false y e = cc
 
-  -- the fault is that of a data access, whose instruction was fetched from flash and so lies low
+  -- the fault is that of a data access, whose instruction was fetched from flash and therefore lies low
   data_fault : IsFault i s z → is_data_fault i t m psp memory z.cfsr ≡ true → (s.core.pc + 2 < 2 ^ 32) × (z.cfsr ≡ 0x82)
   data_fault (inl e) d = absurd (let c : is_data_fault i t m psp memory 1 ≡ true = subst (λ (x : FaultStatus). is_data_fault i t m psp memory x.cfsr ≡ true) e d in no c)
     where

@@ -1,4 +1,4 @@
--- What monitors do that do not isolate, no move of a thread does.
+-- No move of a thread does what monitors do that do not isolate.
 use Rattle.std.proofs.Common.{◌≡◌, ℕ, zero, suc, ◌+◌, ◌-◌, ◌<◌, ◌≤◌, inl, inr, ⊎_elim, List, [], ◌∷◌, length, length-drop, Some, None, sym, ap, ◌∙◌, refl, subst, arith}
 use Rattle.std.proofs.lemmas.Bool.{false≢true, cases_lt}
 use Rattle.base_words.specs.Runs.{run}

@@ -35,7 +35,7 @@ pub fn handlers_keep_the_law()
     faults_keep_the_law();
 }
 
-/// Whatever the monitor's code is: on a sound image the monitor's law gives what confinement asks of both handlers.
+/// The monitor's law gives on a sound image what confinement asks of both handlers, whatever the monitor's code is.
 pub fn sound_laws_confine()
     ensures { (code : MonitorCode) → LawsConfine code }
 {

@@ -11,7 +11,7 @@ use machine_protection::laws::{
 use monitor_confined::protection::threads_reach;
 use monitor_sound::calls::calls_run_short;
 
-/// Where no home that a compartment may write lies in the guard below the stack, the unit refuses each store there.
+/// The unit refuses each store to the guard below the stack, where no home that a compartment may write lies in it.
 pub fn guards_refuse()
     ensures { GuardsRefuse }
 {
