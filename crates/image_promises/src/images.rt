@@ -39,7 +39,7 @@ pub fn sound()
     tables_read_back();
 }
 
-/// It is confined: from whatever a reset leaves, for every recorded input.
+/// The image of a planned firmware is confined: from whatever a reset leaves, for every recorded input.
 pub fn confined_images()
     ensures { PlannedImagesAreConfined }
 {
@@ -48,7 +48,7 @@ pub fn confined_images()
     sound_images_are_confined();
 }
 
-/// It keeps what the linker promises the simulation of its runs.
+/// The image of a planned firmware keeps what the linker promises the simulation of its runs.
 pub fn linked_images()
     ensures { PlannedImagesAreLinked }
 {
@@ -65,7 +65,7 @@ pub fn linked_images()
     kind();
 }
 
-/// It refines its firmware.
+/// The image of a planned firmware refines its firmware.
 pub fn refined_images()
     ensures { PlannedImagesRefine }
 {
@@ -81,7 +81,8 @@ pub fn refined_images()
     refinement();
 }
 
-/// However much stack its frames take, it refines its firmware or stops for want of stack, where the law of the stack holds.
+/// The image of a planned firmware refines its firmware or stops for want of stack, however much stack its frames take, where the law
+/// of the stack holds.
 pub fn refined_or_stopped_images()
     ensures { PlannedImagesRefineOrStop }
 {

@@ -88,9 +88,9 @@ pub fn kept_runs_are_isolated()
     masks_are_needed();
 }
 
-/// In each run, from whatever a reset leaves: the bytes of a global, and of a data region's block, stay while no compartment that may write
-/// it acts; the stack stays while it is closed to each compartment that acts; one of its functions needs what is lent to a compartment; and
-/// each access of a peripheral is the acting compartment's own, and of a peripheral that it may use.
+/// Each run is isolated, from whatever a reset leaves: the bytes of a global, and of a data region's block, stay while no compartment that
+/// may write it acts; the stack stays while it is closed to each compartment that acts; one of its functions needs what is lent to a
+/// compartment; and each access of a peripheral is the acting compartment's own, and of a peripheral that it may use.
 pub fn planned_runs_are_isolated()
     ensures { PlannedRunsAreIsolated }
 {

@@ -56,7 +56,7 @@ fn status_test(list: &mut StepList) -> Result<(), AllocError>
     Ok(())
 }
 
-/// What both handlers begin with: the protection unit is off, and the three tests of the stack.
+/// The beginning of both handlers: the protection unit is off, and the three tests of the stack.
 pub fn open_handler(list: &mut StepList, c: &Numbers) -> Result<(), AllocError>
     ensures { OnOk result (Appends list.old list.new (opening.opened (constants_of c.now))) }
 {
@@ -66,7 +66,7 @@ pub fn open_handler(list: &mut StepList, c: &Numbers) -> Result<(), AllocError>
     Ok(())
 }
 
-/// What both handlers end with: the protection unit is on, and the exception return.
+/// The end of both handlers: the protection unit is on, and the exception return.
 pub fn close_handler(list: &mut StepList) -> Result<(), AllocError>
     ensures { OnOk result (Ends list.old list.new opening.closed_up) }
 {

@@ -83,7 +83,7 @@ pub record MonitorLaw (i : Image) (t : Tables) (stub : ℕ) : Type 0 where
   pub svc : (s : State) (m : MonitorBlock) (n : ℕ) → InvariantHolds i t m s → s.ending ≡ None → n < 256 → IsSvc i t n s → is_frame_open by_mpu i s ≡ true →
       let from : State = at_svc i s in
       Leads i t s (svc_steps n) from (Shows i t (svc_outcome i t stub m (frame_at s.core.sp) from.ram n) s m from.ram)
-  -- of a refused fetch the halfword does not matter
+  -- the halfword of a refused fetch does not matter
   pub memfault : (s : State) (m : MonitorBlock) (u : FaultStatus) (half : ℕ) → InvariantHolds i t m s → s.ending ≡ None → IsFault i s u →
       (u.cfsr ≡ 0x82 → HoldsHalf i s.core.pc half) → is_frame_open by_mpu i s ≡ true →
       let from : State = at_memfault i u s in

@@ -74,7 +74,7 @@ module _ (i : Image) (t : Tables) (first : State) where
       → ((k : ℕ) → from ≤ k → k < to → Acts i t first k → IsWritable t (current i t (at k).ram) a → ⊥)
       → byte_at i (at to) a ≡ byte_at i (at from) a
 
-  -- and where it has changed, one has acted that has
+  -- a compartment that has the byte in such a slot has acted, where the byte has changed
   abbrev pub DataChangesByItsWriters : Type 0
   DataChangesByItsWriters =
       (from to a : ℕ) → Rests i t first from → Rests i t first to → from ≤ to → IsOutside i t a → (OnStack t a → ⊥)

@@ -71,7 +71,7 @@ module _ (i : Image) (t : Tables) (first : State) where
       → ((k : ℕ) → b ≤ k → k ≤ c → (later i t first k).protection.handler ≡ false → depth_at a < depth_at k) → depth_at d ≤ depth_at a
       → (block_at d ≡ block_at a) × GoesOnAt i (later i t first c).ram (frame_at (later i t first a).core.sp) (later i t first d) × (HasKeptFrame a b c → IsBehindCall a d)
 
--- where it is told who runs, calls come back
+-- calls come back where it is told who runs
 abbrev pub WhoRunsComesBack : Type 0
 WhoRunsComesBack = (i : Image) (t : Tables) (first : State) → WhoRuns i t first → CallsComeBack i t first
 

@@ -18,7 +18,7 @@ pub fn guards_refuse()
     threads_reach();
 }
 
-/// A guarded stack's law holds.
+/// The law of the stack holds of a guarded stack.
 pub fn guards_serve()
     ensures { GuardsServe }
 {
@@ -34,7 +34,7 @@ pub fn entries_without_room_stop()
     ensures { EntriesWithoutRoomStop }
 {}
 
-/// An SVC below which no exception's frame fits does too.
+/// An SVC below which no exception's frame fits ends the machine too.
 pub fn calls_without_room_stop()
     ensures { CallsWithoutRoomStop }
 {}
