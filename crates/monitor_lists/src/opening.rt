@@ -122,7 +122,7 @@ fn region(list: &mut StepList, from: u8) -> Result<(), AllocError>
     Ok(())
 }
 
-/// So many regions, whose words stand from a word of the record at r6 on, by r7.
+/// A number of regions, whose words stand from a word of the record at r6 on, by r7.
 fn regions(list: &mut StepList, count: u8, from: u8) -> Result<(), AllocError>
     requires { from + 2 * count < 32 }
     ensures { OnOk result (Appends list.old list.new (opening.regions count from)) }
