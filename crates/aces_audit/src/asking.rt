@@ -20,7 +20,7 @@ use aces_files::telling::{CommandOutput, print};
 use aces_reports::{Done, Failure};
 use base_outside::{Files, Sink};
 use machine_devices::image::Image;
-use monitor_audit::{Audit, Audited, audit, audited};
+use monitor_audit::{Audit, Audited, audit, audited_tables};
 use std::alloc::{AllocError, Global};
 
 /// What is printed of an image.
@@ -62,7 +62,7 @@ fn tables_output(alloc: Global, image: &Image) -> Result<CommandOutput, AllocErr
     ensures { IfOk result (λ told. IsToldOf tables_text image.now (told_outcome told)) }
 {
     sound_images_are_guarded();
-    match audited(alloc, image)? {
+    match audited_tables(alloc, image)? {
         Audited::Sound(tables) => Ok(CommandOutput {
             lines: table_lines(alloc, image, &tables)?,
             done: Done::Completed,

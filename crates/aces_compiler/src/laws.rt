@@ -4,14 +4,18 @@ ghost use Rattle.aces_compiler.specs.Promises.{Promises};
 
 use crate::printed_runs::runs_are_alike;
 use image_promises::guards::{images_are_never_wrong, largest};
-use image_promises::images::{confined, for_boards, refined};
+use image_promises::images::{confined_images, for_boards, refined_images};
 use image_promises::needed::{masks_are_needed, permissions_are_bounded, runs_stay_in_policy};
 use image_promises::permissions::permissions;
 use image_promises::regions::images;
-use image_runs::denied::denied;
+use image_runs::denied::planned_runs_keep_off;
 use image_runs::other_code::rules;
-use image_runs::replaced_code::{kept, planned_images_keep_promises, planned_images_stay_isolated};
-use image_runs::stays::{invariant, isolated, law, planned_runs, slots_are_own, starts};
+use image_runs::replaced_code::{
+    code_keeps_tables, planned_images_keep_promises, planned_images_stay_isolated,
+};
+use image_runs::stays::{
+    invariant, law, planned_runs, planned_runs_are_isolated, slots_are_own, starts,
+};
 use need_laws::least_sets;
 
 /// All that is promised of the image of each firmware that is planned for a board.
@@ -22,13 +26,13 @@ pub(crate) fn all_promises()
     images();
     for_boards();
     planned_runs();
-    isolated();
-    confined();
+    planned_runs_are_isolated();
+    confined_images();
     rules();
-    kept();
+    code_keeps_tables();
     planned_images_keep_promises();
     planned_images_stay_isolated();
-    denied();
+    planned_runs_keep_off();
     permissions();
     slots_are_own();
     masks_are_needed();
@@ -37,7 +41,7 @@ pub(crate) fn all_promises()
     law();
     starts();
     invariant();
-    refined();
+    refined_images();
     images_are_never_wrong();
     largest();
     runs_are_alike();

@@ -7,7 +7,7 @@ ghost use Rattle.monitor_model.specs.Sound.{Sound};
 ghost use Rattle.monitor_audit.specs.Answers.{own_tables};
 
 use machine_devices::image::Image;
-use monitor_audit::{Audited, audited};
+use monitor_audit::{Audited, audited_tables};
 use monitor_model::Tables;
 use std::alloc::{AllocError, Global};
 
@@ -17,7 +17,7 @@ pub(crate) fn sound_tables(alloc: Global, image: &Image) -> Result<Tables, Alloc
     requires sound { Sound monitor_code image.now (own_tables image.now) }
     ensures { IfOk result (λ tables. tables ≡ own_tables image.now) }
 {
-    match audited(alloc, image)? {
+    match audited_tables(alloc, image)? {
         Audited::Sound(tables) => Ok(tables),
         Audited::Unsound(_) => unreachable!(),
     }

@@ -19,7 +19,7 @@ pub no_words : (o : ℕ) (mem : List ℕ) → words_at 0 o mem ≡ []
 unfolding words_at
 no_words o mem = refl
 
--- where eight eighths or more are open, none is taken out
+-- no eighth is taken out where eight or more are open
 pub no_eighth_out : (n : ℕ) → 8 ≤ n → 2 ^ 8 - 2 ^ n ≡ 0
 no_eighth_out n l = let m : 2 ^ 8 ≤ 2 ^ n = pow_mono l in omega (arith, m)
 

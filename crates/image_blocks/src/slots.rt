@@ -167,7 +167,7 @@ fn slot_at(uses: &[SlotUse], k: u8) -> Option<Region>
     Some(words)
 }
 
-/// So many slots from number 4 on, of which the last are free.
+/// A number of slots from number 4 on, of which the last are free.
 fn slot_regions(alloc: Global, uses: &[SlotUse], count: u8) -> Result<Vec<Region>, AllocError>
     requires { count ≤ 12 }
     ensures { IfOk result (λ regions. regions.items ≡ slots.slots_from 4 count (map use_of uses.now)) }

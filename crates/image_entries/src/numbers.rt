@@ -112,7 +112,7 @@ fn all_lends(
 }
 
 /// The calls and the locals that have numbers. None are given where there are more than 4,096 sites or 32 lent locals.
-pub fn numbered(
+pub fn numbers_of(
     alloc: Global,
     program: &Program,
     sites: &[&SiteNeed],

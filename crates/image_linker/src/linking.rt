@@ -19,7 +19,7 @@ use image_blocks::places::{global_addresses, window_addresses};
 use image_blocks::slots::comp_records;
 use image_entries::entries::{entries, sizes};
 use image_entries::making::Making;
-use image_entries::numbers::{Numbers, numbered};
+use image_entries::numbers::{Numbers, numbers_of};
 use image_entries::records::{entry_at, lend_sizes, site_records, target_records};
 use ir_model::firmware::Peripheral;
 use ir_program::peripherals::windows;
@@ -214,7 +214,7 @@ pub fn link_parts(
 {
     let sites = crossing_sites(alloc, needs, &graph.groups)?;
     let lent = lent(needs, &graph.groups);
-    let numbers = numbered(alloc, program, &sites, lent)?;
+    let numbers = numbers_of(alloc, program, &sites, lent)?;
     let addresses = addresses(alloc, program, graph, plan, &numbers)?;
     let making = Making {
         program,

@@ -1,4 +1,4 @@
--- Where none of the seven checks fails on its own, there is no first failure.
+-- There is no first failure, where none of the seven checks fails on its own.
 use Rattle.std.proofs.Common.{◌≡◌, ℕ, Option, None, refl, ap, ◌∙◌}
 use Rattle.machine_devices.specs.declared.image.Image.{Image}
 use Rattle.monitor_model.specs.declared.sound.AuditCheck.{AuditCheck}

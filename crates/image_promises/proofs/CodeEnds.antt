@@ -88,7 +88,7 @@ module _ (p : Program) (groups : CodeGroups) where
   pub entry_reaches : (at : CodePlaces) (f : ℕ) → entry_of p groups at f ≤ get_or at.bases (compartment_of p groups f) 0 + compartment_size p groups (compartment_of p groups f)
   entry_reaches at f = let h = fewer 0 (compartment_of p groups f) f groups.compartments in omega (arith, h)
 
-  -- and so does all code of a function
+  -- all code of a function lies in its compartment's code
   pub function_reaches : (at : CodePlaces) (f : ℕ) → f < length groups.compartments
       → entry_of p groups at f + size_of p groups f ≤ get_or at.bases (compartment_of p groups f) 0 + compartment_size p groups (compartment_of p groups f)
   function_reaches at f l =

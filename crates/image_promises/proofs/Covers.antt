@@ -1,4 +1,4 @@
--- What a compartment's covers hold, they hold after joins too; and each of them is an aligned power of two of peripherals.
+-- The covers of a compartment hold after joins what they held before; and each of them is an aligned power of two of peripherals.
 use Rattle.std.proofs.Common.{◌≡◌, ℕ, ◌<◌, Bool, true, false, not, ◌&&◌, ◌||◌, List, [], ◌∷◌, length, filter, get_or, set, Some, nat_lt, nat_le, refl, ap, sym, ◌∙◌, subst, arith}
 use Rattle.std.specs.List.{list_any}
 use Rattle.std.proofs.lemmas.Bool.{leb-true, le-leb, cases_lt, cases_eq, or_left, or_right, and_from as both, and_parts}

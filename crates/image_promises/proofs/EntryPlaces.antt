@@ -1,4 +1,4 @@
--- The code of compartments lies in flash, and so does the entry of each function.
+-- The code of compartments and the entry of each function lie in flash.
 use Rattle.std.proofs.Common.{◌≡◌, ℕ, zero, suc, ◌+◌, ◌%◌, ◌<◌, ◌≤◌, Bool, true, false, List, [], ◌∷◌, length, take, get_or, nat_eq, if◌then◌else◌, arith}
 use Rattle.std.proofs.lemmas.List.{get_or-map}
 use Rattle.ir_model.specs.Resolved.{Program}

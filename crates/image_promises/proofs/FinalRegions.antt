@@ -99,7 +99,7 @@ module _ (graph : FinalGraph) where
   pub below : EachRegion (λ q. (x : ℕ) → has q.globals x ≡ true → x < count) f.regions
   below = each_final (λ q. (x : ℕ) → has q.globals x ≡ true → x < count) (each_stays (λ x. x < count)) (first_below p n f.groups)
 
-  -- so do those of no region, which have none
+  -- the globals of no region are there, and have no users
   pub unwritten_below : (x : ℕ) → has f.unwritten x ≡ true → x < count
   unwritten_below x h = (free_are p n f.groups x (subst (λ ns. has ns x ≡ true) unwritten_is h)).0
 

@@ -1,4 +1,4 @@
--- Of the targets of a site the last with an entry leads to the compartment, where all with that entry do.
+-- The last target of a site with an entry leads to the compartment, where all targets with that entry do.
 use Rattle.std.proofs.Common.{◌≡◌, ℕ, ◌+◌, Bool, true, false, List, [], ◌∷◌, map, Option, Some, None, nat_eq, inl, inr, refl, ap, ◌∙◌, eq-eqb, eqb-true, arith}
 use Rattle.std.specs.Prelude.{◌⊎◌, Contains}
 use Rattle.monitor_model.specs.declared.tables.TargetRecord.{TargetRecord}

@@ -20,7 +20,7 @@ use Rattle.plan_model.specs.Boards.{slots_of}
 use Rattle.plan_model.specs.Groups.{compartment_of, writes, reads}
 use Rattle.plan_model.specs.Needs.{need_of, has_object}
 use Rattle.plan_model.specs.Lending.{lent, is_local, lend_number}
-use Rattle.plan_model.specs.InitialGraph.{mask_of, read_mask_of, mask_where, initial_graph}
+use Rattle.plan_model.specs.InitialGraph.{mask_of, read_mask_of, mask_where}
 use Rattle.plan_model.specs.Slots.{kept_mask}
 use Rattle.need_laws.specs.Reached.{IsListed}
 use Rattle.machine_bus.specs.Locations.{inside}
@@ -34,10 +34,9 @@ use Rattle.refine.specs.Linked.{HasLoans}
 use Rattle.image_promises.specs.Planned.{planned_tables, planned_image}
 use Rattle.plan.specs.PlannedFirmwares.{plan}
 use Rattle.image_promises.specs.Parts.{linked_build, LoansAreKept, KindsAgree}
-use Rattle.image_promises.proofs.FinalGraphs.{FinalGraph}
 use Rattle.image_promises.proofs.PlannedPremises.{PlannedPremises, planned_of, final_graph_of}
 use Rattle.image_promises.proofs.Bits.{mask_bit}
-use Rattle.image_promises.proofs.Kept.{kept_final}
+use Rattle.image_promises.proofs.Masks.{mask_is, reads_is}
 use Rattle.image_promises.proofs.Reach.{one_of, has_listed}
 use Rattle.image_promises.proofs.Compartments.{in_compartment}
 use Rattle.plan_model.proofs.KeptLimits.{few as few_limits}
@@ -91,21 +90,6 @@ record_of p n f l b c m = get_or-map-range_with_len (comp_record p f l (slots_of
 kept_is : (f : Final) (masks : List ℕ) (c : ℕ) → nat_lt 1 f.groups.count ≡ true → kept_mask f masks c ≡ get_or masks c 0
 kept_is f masks c m = ap (λ b. cond b (get_or masks c 0) 0) m
 
-module _ (graph : FinalGraph) (c : ℕ) (below : c < graph.final.groups.count) where
-  open graph use {program as p, needs as n, final as f, slots, is_final as final}
-
-  mask_kept : get_or f.masks c 0 ≡ mask_of n f.groups c
-  unfolding initial_graph
-  mask_kept =
-      let k = kept_final p slots (initial_graph p n f.groups) f final in
-      ap (λ ms. get_or ms c 0) k.masks ∙ get_or-map-range_with_len (mask_of n f.groups) 0 f.groups.count c c 0 below (zero-add c)
-
-  reads_kept : get_or f.reads c 0 ≡ read_mask_of n f.groups c
-  unfolding initial_graph
-  reads_kept =
-      let k = kept_final p slots (initial_graph p n f.groups) f final in
-      ap (λ ms. get_or ms c 0) k.reads ∙ get_or-map-range_with_len (read_mask_of n f.groups) 0 f.groups.count c c 0 below (zero-add c)
-
 at_local : (does : ℕ × ℕ → Bool) (n : Needs) (g : Groups) (h l k : ℕ) → IsLent n g h l k → (P : ℕ → ℕ → Bool) → ((x : ℕ × ℕ) → does x ≡ P x.0 x.1) → P h l ≡ true → does (get_or n.lendable k (0, 0)) ≡ true
 at_local does n g h l k is P same t =
     let x : ℕ × ℕ = get_or n.lendable k (0, 0) in
@@ -132,7 +116,7 @@ module _ (code : MonitorCode) (planned : PlannedPremises) where
       (one_of f.groups (λ y. has_object (need_of n y).written (Local h l)) g there.listed (has_listed (need_of n g).written (LocalObject h l) listed))) in
       eq-eqb (bit_at (compartment_at (planned_tables w n f b) c).mask k) 1
       (ap (λ (r : CompRecord). bit_at r.mask k) (record_of (resolve w) n f (plan w n f b) b c there.below)
-      ∙ (ap (λ x. bit_at x k) (kept_is f f.masks c i.many ∙ mask_kept (final_graph_of planned) c there.below) ∙ bit))
+      ∙ (ap (λ x. bit_at x k) (kept_is f f.masks c i.many ∙ mask_is (final_graph_of planned) c there.below) ∙ bit))
 
   loads : b.closed ≡ true → (g h l k : ℕ) → g < length (resolve w).funcs → IsListed (need_of n g).read (LocalObject h l) → lend_number n f.groups h l ≡ Some k
       → has_read_loan (planned_image w n f b) (planned_tables w n f b) (compartment_of f.groups g) k ≡ true
@@ -151,7 +135,7 @@ module _ (code : MonitorCode) (planned : PlannedPremises) where
       ap (λ z. z && nat_eq (bit_at (compartment_at (planned_tables w n f b) c).reads k) 1) closed
       ∙ eq-eqb (bit_at (compartment_at (planned_tables w n f b) c).reads k) 1
       (ap (λ (r : CompRecord). bit_at r.reads k) (record_of (resolve w) n f (plan w n f b) b c there.below)
-      ∙ (ap (λ x. bit_at x k) (kept_is f f.reads c i.many ∙ (reads_kept (final_graph_of planned) c there.below ∙ open_mask)) ∙ bit))
+      ∙ (ap (λ x. bit_at x k) (kept_is f f.reads c i.many ∙ (reads_is (final_graph_of planned) c there.below ∙ open_mask)) ∙ bit))
 
   open_loads : b.closed ≡ false → (c o : ℕ) → o < b.ram_size → may_load (planned_image w n f b) (planned_tables w n f b) c (b.ram_base + o) ≡ true
   unfolding linked may_load

@@ -31,7 +31,7 @@ reads_below n m h true = h
 reads_below n m h false = zero_below n
 
 module _ (p : Program) (n : Needs) (f : Final) where
-  -- where there is one compartment alone, nothing is lent
+  -- nothing is lent where there is one compartment alone
   lent_below : (m : ℕ) → m < 2 ^ length n.lendable → (b : Bool) → cond b m 0 < 2 ^ length (lend_sizes p (cond b n.lendable []))
   lent_below m h true = subst (λ k. m < 2 ^ k) (sym (length-map n.lendable (λ (x : ℕ × ℕ). (local_at p x.0 x.1).size))) h
   lent_below m h false = lit< tt

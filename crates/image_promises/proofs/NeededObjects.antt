@@ -1,4 +1,4 @@
--- What a compartment may write one of its functions needs, or its regions expose.
+-- One of its functions needs what a compartment may write, or its regions expose it.
 use Rattle.std.proofs.Common.{◌≡◌, ℕ, zero, suc, ◌<◌, ◌≤◌, ◌+◌, ◌⊎◌, inl, inr, Bool, true, false, not, ◌&&◌, cond, List, [], ◌∷◌, length, map, filter, get_or, position, nat_eq, nat_lt, nat_le, Option, Some, None, sum_by, refl, ap, sym, ◌∙◌, subst, arith, eqb-true}
 use mathlib.Core.Logic.{⊎_elim}
 use Rattle.std.specs.Int.{bit_at}

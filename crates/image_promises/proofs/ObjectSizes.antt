@@ -1,4 +1,4 @@
--- In a firmware that passes the checks and is within the limits each global and each local has a byte at least.
+-- Each global and each local of a firmware that passes the checks and is within the limits has a byte at least.
 use Rattle.std.proofs.Common.{◌≡◌, ℕ, zero, suc, ◌<◌, Bool, true, false, List, [], ◌∷◌, ◌++◌, length, map, get_or, refl, sym, ap, ◌∙◌, subst, bytes_eq, if◌then◌else◌, append_assoc, append-nil, nat_le, arith}
 use Rattle.std.proofs.lemmas.List.{map-append, length-map}
 use Rattle.ir_model.specs.declared.check.CheckKind.TheVariants.{Unknown, ObjectTooLarge, BadInit}

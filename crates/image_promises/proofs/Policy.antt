@@ -1,12 +1,11 @@
--- What needs list, the graph permits.
-use Rattle.std.proofs.Common.{◌≡◌, ◌≢◌, ℕ, ◌<◌, ◌≤◌, ◌+◌, inl, inr, Bool, true, ◌&&◌, ◌||◌, cond, [], length, get_or, position, nat_eq, Some, None, refl, ap, ap₂, sym, ◌∙◌, subst, arith, eqb-true, eq-eqb, lt-ltb}
+-- The graph permits what needs list.
+use Rattle.std.proofs.Common.{◌≡◌, ◌≢◌, ℕ, ◌<◌, ◌≤◌, inl, inr, Bool, true, ◌&&◌, ◌||◌, cond, [], length, get_or, position, nat_eq, Some, None, refl, ap, ap₂, sym, ◌∙◌, subst, arith, eqb-true, eq-eqb, lt-ltb}
 use Rattle.std.specs.Prelude.{Contains}
 use mathlib.Core.Logic.{⊎_elim}
 use Rattle.std.specs.Int.{bit_at}
 use Rattle.std.specs.List.{list_any}
 use Rattle.std.proofs.lemmas.Bool.{cases_lt, cases_eq, false≢true, and_parts, or_right, and_from as both}
 use Rattle.std.proofs.lemmas.List.{get_or_past}
-use Rattle.std.proofs.lemmas.List.FromFn.{get_or-map-range_with_len}
 use Rattle.std.proofs.lemmas.List.Folds.{list_any_at}
 use Rattle.std.specs.List.{position_or_len}
 use Rattle.std.proofs.lemmas.List.Sums.{fails_before_first, passes_at_first}
@@ -19,10 +18,9 @@ use Rattle.ir_model.specs.Runs.{source_after}
 use Rattle.ir_laws.specs.Sets.{ObjectSets, Node, ReadsAt, WritesAt, IsRead, IsWritten}
 use Rattle.plan_model.specs.declared.needs.Needs.{Needs}
 use Rattle.plan_model.specs.declared.graph.DataRegion.{DataRegion}
-use Rattle.plan_model.specs.Boards.{slots_of}
 use Rattle.plan_model.specs.Covers.{is_inside}
 use Rattle.plan_model.specs.Groups.{compartment_of, writes, reads, uses}
-use Rattle.plan_model.specs.InitialGraph.{cover_of, read_mask_of, mask_where, initial_graph}
+use Rattle.plan_model.specs.InitialGraph.{cover_of, read_mask_of, mask_where}
 use Rattle.plan_model.specs.Lendable.{OthersWrite, OthersRead}
 use Rattle.plan_model.specs.Lending.{lent, is_local}
 use Rattle.plan_model.specs.Lists.{has}
@@ -36,11 +34,10 @@ use Rattle.image_promises.proofs.PlannedPremises.{PlannedPremises, planned_of, f
 use Rattle.image_promises.proofs.Bits.{mask_bit}
 use Rattle.image_promises.proofs.Compartments.{in_compartment}
 use Rattle.image_promises.proofs.FinalRegions as regions
-use Rattle.image_promises.proofs.Kept.{kept_final}
 use Rattle.image_promises.proofs.Reach.{one_of, has_listed}
 use Rattle.image_promises.proofs.WindowsOpen.{covered, periph_has}
 use Rattle.image_promises.specs.Policy.{IsAllowed, IsInPolicy, PlannedRunsStayInPolicy}
-use Rattle.image_promises.proofs.Masks.{mask_is}
+use Rattle.image_promises.proofs.Masks.{mask_is, reads_is}
 
 -- ---- the set that has an object that is reached
 
@@ -101,7 +98,7 @@ bit_there n does h l few there t =
         ap₂ (λ (a c : ℕ). does (a, c)) (eqb-true x.0 h p.0) (eqb-true x.1 l p.1)
 
 module _ (planned : PlannedPremises) (many : 1 < planned.final.groups.count) (g : ℕ) (below : g < length (resolve planned.firmware).funcs) where
-  open planned use {firmware as w, needs as n, final as f, board as b, is_planned as ok}
+  open planned use {firmware as w, needs as n, final as f, is_planned as ok}
 
   abbrev p : Program
   p = resolve w
@@ -121,12 +118,6 @@ module _ (planned : PlannedPremises) (many : 1 < planned.final.groups.count) (g 
       let x = (limits.few n f.groups ok.limits).lent in
       let y = ap length e in
       omega (arith, x, y)
-
-  reads_is : get_or f.reads c 0 ≡ read_mask_of n f.groups c
-  unfolding initial_graph
-  reads_is =
-      let k = kept_final p (slots_of b) (initial_graph p n f.groups) f ok.final in
-      ap (λ ms. get_or ms c 0) k.reads ∙ get_or-map-range_with_len (read_mask_of n f.groups) 0 f.groups.count c c 0 c_below (let e : 0 + c ≡ c = omega arith in e)
 
   -- ---- peripherals
 
@@ -190,7 +181,7 @@ module _ (planned : PlannedPremises) (many : 1 < planned.final.groups.count) (g 
           let reader : reads n f.groups c (Local h l) ≡ true = one_of f.groups (λ y. has_object (need_of n y).read (Local h l)) g listed (has_listed (need_of n g).read (LocalObject h l) i) in
           let all : read_mask_of n f.groups c ≡ mask_where n (λ y. writes n f.groups c (Local y.0 y.1) || reads n f.groups c (Local y.0 y.1)) =
           ap (λ z. cond z (mask_where n (λ y. writes n f.groups c (Local y.0 y.1) || reads n f.groups c (Local y.0 y.1))) 0) closed in
-          ap (λ m. is_set m (position (is_local h l) n.lendable)) (reads_is ∙ all)
+          ap (λ m. is_set m (position (is_local h l) n.lendable)) (reads_is (final_graph_of planned) c c_below ∙ all)
           ∙ bit_there n (λ y. writes n f.groups c (Local y.0 y.1) || reads n f.groups c (Local y.0 y.1)) h l few lendable (or_right (writes n f.groups c (Local h l)) (reads n f.groups c (Local h l)) reader)
   loads closed (FunctionObject h) i q = subst (λ (x : Object). Rattle.plan_model.specs.Needs.IsData x) i.2 ((ok.needs.funcs g below).read.each i.0 i.1).0
 

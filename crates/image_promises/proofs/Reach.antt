@@ -1,4 +1,4 @@
--- What the needs of a function list, its compartment may reach.
+-- The compartment of a function may reach what its needs list.
 use Rattle.std.proofs.Common.{◌≡◌, ℕ, ◌<◌, Bool, true, ◌&&◌, List, length, nat_eq, refl, ap, ◌∙◌, subst, eq-eqb}
 use Rattle.std.specs.List.{list_any}
 use Rattle.std.specs.Ordering.{eq_by_cmp}

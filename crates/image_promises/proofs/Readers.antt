@@ -1,4 +1,4 @@
--- On an open board no region has a reader, before joins and behind them.
+-- No region has a reader on an open board, before joins and behind them.
 use Rattle.std.proofs.Common.{◌≡◌, ℕ, Bool, true, false, ◌||◌, List, [], length, map, filter, set, cond, Some, refl, ap, ap₂, sym, ◌∙◌, subst}
 use Rattle.ir_model.specs.Resolved.{Program}
 use Rattle.base_laws.specs.Lists.{Each}

@@ -53,7 +53,7 @@ use Rattle.image_promises.proofs.OneSlot.{free_holds, one_slot, open_within}
 
 -- ---- lists
 
--- what one item has, one of the list has
+-- one of the list has what one item has
 each_among : {X : Type 0} (P : X → Type 0) (xs : List X) → Each (λ x. P x → AnyOf P xs) xs
 each_among P [] = tt
 each_among P (x ∷ xs) = (λ h. inl h, each_to (λ y. P y → AnyOf P xs) (λ y. P y → AnyOf P (x ∷ xs)) xs (λ y f h. inr (f h)) (each_among P xs))

@@ -1,4 +1,4 @@
--- Where the words of the blocks that start-up fills stand in flash, its bytes there are those of the blocks.
+-- The bytes of flash are those of the blocks that start-up fills, where the words of these blocks stand.
 use Rattle.std.proofs.Common.{◌≡◌, ℕ, zero, suc, ◌+◌, ◌-◌, ◌*◌, ◌/◌, ◌%◌, ◌<◌, ◌≤◌, inl, inr, List, [], ◌∷◌, ◌++◌, length, flat_map, refl, sym, ap, ◌∙◌, subst, arith, length-append}
 use Rattle.std.specs.Prelude.{slice_index}
 use Rattle.std.proofs.lemmas.List.{get_or_append_left, get_or-append-add}
@@ -83,7 +83,7 @@ module _ (p : Program) (q : Places) (base : ℕ) (flash : List ℕ) where
   unfolding first_words
   first_long xs = words_long (words_in p xs) 0 (first_bytes p q xs)
 
-  -- what a block has, its record has
+  -- the record of a block has what the block has
   pub brought : (Q : Filled → Type 0) (R : InitRecord → Type 0) → ((b : Filled) (n : InitRecord) → Q b → IsBrought b n → R n) → (a : ℕ) (bs : List Filled) → base ≤ a → AnyOf Q bs
       → StandAt a (flat_map (λ (b : Filled). first_words p q b.globals) bs) → AnyOf R (init_records p a bs)
   brought Q R f a [] le h s = h

@@ -33,7 +33,7 @@ use Rattle.image_promises.specs.Parts.{linked_build}
 abbrev pub CodePasses : Type 0
 CodePasses = OfPlanned (λ i t. code_fails monitor_code.page i t ≡ None)
 
--- the first 4,096 bytes of flash are those of the page, none cut
+-- the first 4,096 bytes of flash are those of the page, of which none is cut
 abbrev pub PageIsExact : Type 0
 PageIsExact = OfPlanned (λ i t. (k : ℕ) → k < page_size → slice_index i.flash k ≡ slice_index (page t) k)
 
@@ -66,7 +66,7 @@ CodeLies =
     (code : MonitorCode) (w : PlainFirmware) (n : Needs) (f : Final) (b : Board) → IsPlanned w n f b → ObeysRules (planned_image w n f b) →
     CodeStands (linked_build code w n f b)
 
--- each compartment's block begins with its code, no byte of it cut
+-- each compartment's block begins with its code, of which no byte is cut
 abbrev pub CodeIsExact : Type 0
 CodeIsExact =
     (w : PlainFirmware) (n : Needs) (f : Final) (b : Board) → IsPlanned w n f b → (c k : ℕ) → c < f.groups.count → k < length (planned_code (resolve w) n f (plan w n f b) c) →

@@ -26,7 +26,7 @@ GuardedPlansGuard = (w : PlainFirmware) (n : Needs) (f : Final) (b : Board) → 
 abbrev pub LowestStacksAreGuarded : Type 0
 LowestStacksAreGuarded = (w : PlainFirmware) (n : Needs) (f : Final) (b : Board) → IsStackLowest w n f b → IsStackGuarded w n f b
 
--- and it is the lowest where the board asks for it, or no other block of RAM is larger
+-- a stack is guarded where the board asks for it lowest, or no other block of RAM is larger
 abbrev pub LargestStacksAreGuarded : Type 0
 LargestStacksAreGuarded =
     (w : PlainFirmware) (n : Needs) (f : Final) (b : Board) → (b.lowest ≡ Stack) ⊎ IsStackLargest (resolve w) f b → IsStackGuarded w n f b
@@ -39,7 +39,7 @@ GuardedStacksServe =
     (w : PlainFirmware) (n : Needs) (f : Final) (b : Board) → IsPlanned w n f b → IsStackGuarded w n f b →
     StackLaw (setting_of monitor_code (planned_image w n f b) (planned_tables w n f b)) (Invariant (planned_image w n f b) (planned_tables w n f b))
 
--- so the image of a planned firmware whose stack is guarded is never wrong, only stopped
+-- the image of a planned firmware whose stack is guarded is never wrong, only stopped
 abbrev pub GuardedImagesAreNeverWrong : Type 0
 GuardedImagesAreNeverWrong =
     (w : PlainFirmware) (S : ObjectSets) (n : Needs) (f : Final) (b : Board) → IsPlanned w n f b → IsLeast (resolve w) S → AreNeeds (resolve w) S b.closed n → IsStackGuarded w n f b →

@@ -11,7 +11,7 @@ use Rattle.plan.specs.PlannedFirmwares.{plan}
 use Rattle.refine.specs.Ends.{guard_bytes}
 
 module _ (w : PlainFirmware) (n : Needs) (f : Final) (b : Board) where
-  -- of the 1,024 bytes below the stack those that are RAM's are no data region's
+  -- those of the 1,024 bytes below the stack that are RAM's are no data region's
   abbrev pub IsStackGuarded : Type 0
   IsStackGuarded =
       (a r : ℕ) → b.ram_base ≤ a → a < (plan w n f b).stack.base → (plan w n f b).stack.base ≤ a + guard_bytes →

@@ -33,13 +33,14 @@ module _ (w : PlainFirmware) (n : Needs) (f : Final) (b : Board) where
     pub unneeded : has (never_written n f.groups c (region_at f.regions region)) x ≡ true
 
   pub record IsBoundedByNeeds : Type 0 where
-    -- a global that a compartment may write one of its functions writes, or it is exposed to the compartment
+    -- one of its functions writes a global that a compartment may write, or the global is exposed to the compartment
     pub globals : (c x : ℕ) → may_write p n f c (Global x) ≡ true → (writes n f.groups c (Global x) ≡ true) ⊎ IsExposed c x
-    -- where a listing says `exposed 0` no global is that has a byte
+    -- no global that has a byte is exposed, where a listing says `exposed 0`
     pub none : (c x : ℕ) → exposed_to_writes p n f.groups f.regions c ≡ 0 → 0 < global_size p x → may_write p n f c (Global x) ≡ true → writes n f.groups c (Global x) ≡ true
-    -- a lent local one of its functions writes
+    -- one of its functions writes a lent local that it may write
     pub locals : (c g l : ℕ) → may_write p n f c (Local g l) ≡ true → writes n f.groups c (Local g l) ≡ true
-    -- where no compartment has more regions and windows than slots, so that nothing is joined, a peripheral too
+    -- one of its functions uses a peripheral that it may use, where no compartment has more regions and windows than slots, so that
+    -- nothing is joined
     pub periphs : next p (slots_of b) (initial_graph p n f.groups) ≡ None → (c q : ℕ) → q < length p.periphs → may_write p n f c (Periph q) ≡ true → uses n f.groups c q ≡ true
 
   -- a bit of the mask for stores is that of a lent local which some function of the compartment writes

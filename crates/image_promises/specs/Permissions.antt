@@ -49,7 +49,7 @@ module _ (w : PlainFirmware) (n : Needs) (f : Final) (b : Board) where
     pub permitted : (q z : ℕ) → q < length program.periphs → IsOf (cover_of program q) z → IsOf range z → may (Periph q) ≡ true
 
   -- the address lies in RAM, in the block of a data region and in no other block of RAM; where it is one of a global's bytes, that
-  -- global is one of the permission, so else it is padding
+  -- global is one of the permission; an address that is of no global is padding
   pub record IsInData (may : ObjId → Bool) (a : ℕ) : Type 0 where
     pub from : b.ram_base ≤ a
     pub to : a < b.ram_base + b.ram_size
@@ -59,7 +59,7 @@ module _ (w : PlainFirmware) (n : Needs) (f : Final) (b : Board) where
     pub alone : (u : RamUse) → HoldsAddress program f (plan w n f b) u a → u ≡ ForRegion region
     pub permitted : (x : ℕ) → x < length program.globals → IsByteOf x a → may (Global x) ≡ true
 
-  -- one or the other
+  -- an address that lies on permitted peripherals or in permitted data
   pub data IsPermitted (may : ObjId → Bool) (compartment a : ℕ) : Type 0 where
     OnPeripherals : AnyOf (IsOnPeripherals may a) (get_or f.covers compartment []) → IsPermitted may compartment a
     InData : IsInData may a → IsPermitted may compartment a
@@ -67,8 +67,8 @@ module _ (w : PlainFirmware) (n : Needs) (f : Final) (b : Board) where
   abbrev tables : Tables
   tables = planned_tables w n f b
 
-  -- so is each address that a slot with AP 011, which all may write, holds; and each that any slot holds is one of the permission to
-  -- read
+  -- each address that a slot with AP 011, which all may write, holds is one of the permission to write; and each that any slot
+  -- holds is one of the permission to read
   pub record SlotsArePermitted : Type 0 where
     pub stores : (c a : ℕ) → AnyOf (λ (g : Region). (holds g a ≡ true) × (permission g ≡ 3)) (compartment_at tables c).slots → IsPermitted (may_write program n f c) c a
     pub loads : (c a : ℕ) → AnyOf (λ (g : Region). holds g a ≡ true) (compartment_at tables c).slots → IsPermitted (may_read program n f c) c a

@@ -1,5 +1,5 @@
 -- Beyond the program's claim: only laws, proofs and functions inside the tool cite this file.
--- What is answered to the image of every planned firmware: the statement of a law.
+-- The answer to the image of every planned firmware: the statement of a law.
 use Rattle.std.specs.Prelude.{◌≡◌, length}
 use Rattle.ir_model.specs.Plain.{PlainFirmware}
 use Rattle.plan_model.specs.declared.needs.Needs.{Needs}

@@ -13,10 +13,10 @@ use Rattle.image_promises.specs.Laws.{OfPlanned}
 abbrev pub WordsFit : Type 0
 WordsFit = OfPlanned (λ i t. Each (λ w. w < 2 ^ 32) (area t))
 
--- so behind the page, flash has them as they are
+-- flash has the words of the tables behind the page, as they are
 abbrev pub WordsStand : Type 0
 WordsStand = OfPlanned (λ i t. (k : ℕ) → k < length (area t) → read 4 (page_size + 4 * k) i.flash ≡ slice_index (area t) k)
 
--- where start-up's code has the entry and the compartment of `main`, the tables that are read from flash are those that were linked
+-- the tables that are read from flash are those that were linked, where start-up's code has the entry and the compartment of `main`
 abbrev pub TablesReadBack : Type 0
 TablesReadBack = OfPlanned (λ i t. moved_word_at monitor_code.main_entry_at i.flash ≡ t.main → moved_word_at monitor_code.main_compartment_at i.flash ≡ t.main_comp → t ≡ tables_of monitor_code i)

@@ -25,7 +25,8 @@ use Rattle.plan.specs.PlannedFirmwares.{IsPlanned}
 use Rattle.image_promises.specs.Laws.{OfPlanned}
 use Rattle.image_promises.specs.Parts.{linked_build}
 
--- its windows are the firmware's peripherals in order, and its memories, its stack's size and the kind of its protection are the board's
+-- the image's windows are the firmware's peripherals in order, and its memories, its stack's size and the kind of its protection are the
+-- board's
 pub record IsForBoard (w : PlainFirmware) (b : Board) (i : Image) : Type 0 where
   pub windows : i.windows ≡ windows_of w
   pub flash_base : i.flash_base ≡ b.flash_base
@@ -38,25 +39,25 @@ pub record IsForBoard (w : PlainFirmware) (b : Board) (i : Image) : Type 0 where
 abbrev pub PlannedImagesAreForBoards : Type 0
 PlannedImagesAreForBoards = (w : PlainFirmware) (n : Needs) (f : Final) (b : Board) → IsPlanned w n f b → IsForBoard w b (planned_image w n f b)
 
--- its flash has its tables, and none of the checks of an image fails
+-- the image's flash has its tables, and none of the checks of an image fails
 abbrev pub PlannedImagesAreSound : Type 0
 PlannedImagesAreSound = OfPlanned (λ i t. Sound monitor_code i t)
 
--- so no store for a compartment leaves that compartment's permission
+-- no store for a compartment leaves that compartment's permission
 abbrev pub PlannedImagesAreConfined : Type 0
 PlannedImagesAreConfined = OfPlanned (λ i t. Confined i t)
 
--- it keeps all that the linker promises
+-- the image keeps all that the linker promises
 abbrev pub PlannedImagesAreLinked : Type 0
 PlannedImagesAreLinked = (w : PlainFirmware) (n : Needs) (f : Final) (b : Board) → IsPlanned w n f b → Linked (linked_build monitor_code w n f b)
 
--- so it refines its firmware, where the needs are those by the least sets
+-- the image refines its firmware, where the needs are those by the least sets
 abbrev pub PlannedImagesRefine : Type 0
 PlannedImagesRefine =
     (w : PlainFirmware) (S : ObjectSets) (n : Needs) (f : Final) (b : Board) → IsPlanned w n f b → IsLeast (resolve w) S → AreNeeds (resolve w) S b.closed n
     → Refines w n f.groups b.stack (initial_word_count (planned_tables w n f b)) (planned_image w n f b)
 
--- or stops for want of stack, however much its frames take, where the law of the stack holds
+-- the image refines its firmware or stops for want of stack, however much its frames take, where the law of the stack holds
 abbrev pub PlannedImagesRefineOrStop : Type 0
 PlannedImagesRefineOrStop =
     (w : PlainFirmware) (S : ObjectSets) (n : Needs) (f : Final) (b : Board) → IsPlanned w n f b → IsLeast (resolve w) S → AreNeeds (resolve w) S b.closed n

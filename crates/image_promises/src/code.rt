@@ -14,7 +14,7 @@ use machine_thumb::laws::{decoding_undoes_encoding, first_halfword_shows_length}
 use monitor_program::code_size::page_is_full;
 use plan_layout_laws::{flash, places, ram};
 
-/// The page of the tables stands in flash as it is, no byte cut, so the check of the code of a planned image does not fail.
+/// The page of the tables stands in flash with no byte cut, so the check of the code of a planned image does not fail.
 pub fn page()
     ensures exact { PageIsExact }
     ensures passes { CodePasses }
@@ -53,8 +53,8 @@ pub fn stub()
     page_is_full();
 }
 
-/// Each compartment's block begins with its code, no byte cut; so where the image obeys the rules of images, the pieces of that code
-/// stand at their places.
+/// Each compartment's block begins with its code, of which no byte is cut. So the pieces of that code stand at their places, where the
+/// image obeys the rules of images.
 pub fn code()
     ensures exact { CodeIsExact }
     ensures lies { CodeLies }

@@ -41,8 +41,7 @@ pub fn tables()
     page_is_full();
 }
 
-/// What the flash of a planned image has: the page of its tables, the words of its tables, and the code of each compartment in its
-/// block.
+/// The flash of a planned image has the page of its tables, the words of its tables, and the code of each compartment in its block.
 pub fn flash_has()
     ensures { FlashReadsBack }
 {

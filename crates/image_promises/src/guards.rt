@@ -2,7 +2,7 @@
 
 ghost use Rattle.image_promises.specs.FromGuards.{GuardedPlansGuard, LowestStacksAreGuarded, LargestStacksAreGuarded, StacksBehindMonitorsAreGuarded, GuardedStacksServe, GuardedImagesAreNeverWrong};
 
-use crate::images::{refined_or_stopped, sound};
+use crate::images::{refined_or_stopped_images, sound};
 use crate::permissions::permissions;
 use crate::regions::{images, memory};
 use monitor_laws::images::sound_images_are_placed;
@@ -11,8 +11,8 @@ use plan_layout_laws::{ram, stack};
 use refine::never_wrong::never_wrong;
 use refine::overruns::guards_serve;
 
-/// Where no data region has a byte in the guard below the stack, no compartment may store there.
-pub fn guarded()
+/// No compartment may store in the guard below the stack, where no data region has a byte in it.
+pub fn guarded_plans()
     ensures { GuardedPlansGuard }
 {
     permissions();
@@ -44,7 +44,7 @@ pub fn behind()
 pub fn stacks()
     ensures { GuardedStacksServe }
 {
-    guarded();
+    guarded_plans();
     sound();
     images();
     sound_images_are_placed();
@@ -58,6 +58,6 @@ pub fn images_are_never_wrong()
     ensures { GuardedImagesAreNeverWrong }
 {
     stacks();
-    refined_or_stopped();
+    refined_or_stopped_images();
     never_wrong();
 }

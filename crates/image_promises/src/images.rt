@@ -39,8 +39,8 @@ pub fn sound()
     tables_read_back();
 }
 
-/// It is confined: from whatever a reset leaves, for every recorded input.
-pub fn confined()
+/// The image of a planned firmware is confined: from whatever a reset leaves, for every recorded input.
+pub fn confined_images()
     ensures { PlannedImagesAreConfined }
 {
     sound();
@@ -48,8 +48,8 @@ pub fn confined()
     sound_images_are_confined();
 }
 
-/// It keeps what the linker promises the simulation of its runs.
-pub fn linked()
+/// The image of a planned firmware keeps what the linker promises the simulation of its runs.
+pub fn linked_images()
     ensures { PlannedImagesAreLinked }
 {
     images();
@@ -65,8 +65,8 @@ pub fn linked()
     kind();
 }
 
-/// It refines its firmware.
-pub fn refined()
+/// The image of a planned firmware refines its firmware.
+pub fn refined_images()
     ensures { PlannedImagesRefine }
 {
     flash();
@@ -74,20 +74,21 @@ pub fn refined()
     places();
     sound();
     images();
-    linked();
+    linked_images();
     ranges();
     kind();
     sound_images_serve_simulation();
     refinement();
 }
 
-/// However much stack its frames take, it refines its firmware or stops for want of stack, where the law of the stack holds.
-pub fn refined_or_stopped()
+/// The image of a planned firmware refines its firmware or stops for want of stack, however much stack its frames take, where the law
+/// of the stack holds.
+pub fn refined_or_stopped_images()
     ensures { PlannedImagesRefineOrStop }
 {
     sound();
     images();
-    linked();
+    linked_images();
     ranges();
     kind();
     sound_images_serve_simulation();

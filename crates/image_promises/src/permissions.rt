@@ -9,7 +9,7 @@ use machine_protection::laws::{
 use plan_graph::laws::final_graph_fits_slots;
 use plan_layout_laws::{flash, globals as globals_in_blocks, places, ram};
 
-/// In the tables of a planned image each address that a writable slot of a compartment holds is that of a range of peripherals, of which
+/// Each address that a writable slot of a compartment holds, in the tables of a planned image, is that of a range of peripherals, of which
 /// every declared peripheral there lies inside it and is one that the compartment may write; or it lies in RAM, in the block of a data
 /// region and in no other one, and if it is a byte of a global, the compartment may write that global. The same holds of all slots and
 /// of what the compartment may read.

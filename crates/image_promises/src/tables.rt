@@ -27,8 +27,8 @@ pub fn words()
     flash_has();
 }
 
-/// Where start-up's code in the page has the entry and the compartment of `main`, the tables that are read from the flash of a planned
-/// image are those that it was linked with.
+/// The tables that are read from the flash of a planned image are those that it was linked with, where start-up's code in the page has
+/// the entry and the compartment of `main`.
 pub fn tables()
     ensures { TablesReadBack }
 {

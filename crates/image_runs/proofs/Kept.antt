@@ -1,4 +1,4 @@
--- What sound images have with other code, and so planned ones.
+-- Sound images keep their promises with other code, and planned images, which are sound, keep them too.
 use Rattle.std.proofs.Common.{ℕ, List}
 use Rattle.machine_devices.specs.declared.image.Image.{Image}
 use Rattle.machine_devices.specs.Rules.{ObeysRules}

@@ -33,11 +33,11 @@ module _ (i : Image) (t : Tables) (first : State) where
     pub loads : (n : ℕ) → Acts i t first n → Each (AllBytes (P n)) (turn by_mpu i (at n)).loads
     pub stores : (n : ℕ) → Acts i t first n → Each (AllBytes (P n)) (turn by_mpu i (at n)).stores
 
-  -- from the peripherals' part of the memory map on it lies in a slot of the acting compartment
+  -- each byte from the peripherals' part of the memory map on lies in a slot of the acting compartment
   abbrev pub DevicesAreInSlots : Type 0
   DevicesAreInSlots = OfEachByte (λ n a. 0x40000000 ≤ a → AnyOf (λ (g : Region). holds g a ≡ true) (running i t (at n)).slots)
 
-  -- it lies in no denied range
+  -- each byte lies in no denied range
   abbrev pub NoneIsDenied : List Denied → Type 0
   NoneIsDenied ds = OfEachByte (λ n a. Each (λ d. InDenied d a → ⊥) ds)
 

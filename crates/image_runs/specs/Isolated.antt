@@ -53,7 +53,7 @@ module _ (w : PlainFirmware) (n : Needs) (f : Final) (b : Board) (i : Image) (t 
       → ((k : ℕ) → from ≤ k → k < to → Acts i t first k → may_write p n f (acting k) (Global x) ≡ false)
       → byte_at i (at to) a ≡ byte_at i (at from) a
 
-  -- and where it has changed, one has acted that may
+  -- a compartment that may write the global has acted, where the byte has changed
   abbrev pub GlobalsChangeByTheirWriters : Type 0
   GlobalsChangeByTheirWriters =
       (x a from to : ℕ) → x < length p.globals → IsByteOf w n f b x a → Rests i t first from → Rests i t first to → from ≤ to
@@ -83,13 +83,13 @@ module _ (w : PlainFirmware) (n : Needs) (f : Final) (b : Board) (i : Image) (t 
   abbrev pub HasLoaded : (step address : ℕ) → Type 0
   HasLoaded k a = AnyOf (λ (y : Touched). (y.address ≤ a) × (a < y.address + y.width)) (turn by_mpu i (at k)).loads
 
-  -- where the board's reads are closed, an act's instruction loads a byte of a global only if its compartment may read the global
+  -- an act's instruction loads a byte of a global only if its compartment may read the global, where the board's reads are closed
   abbrev pub GlobalsAreReadByTheirReaders : Type 0
   GlobalsAreReadByTheirReaders =
       i.closed ≡ true → (x a k : ℕ) → x < length p.globals → IsByteOf w n f b x a → Acts i t first k → HasLoaded k a
       → may_read p n f (acting k) (Global x) ≡ true
 
-  -- and the monitor loads none for it
+  -- the monitor loads no byte of a global for an act, where the board's reads are closed
   abbrev pub MonitorReadsNoGlobal : Type 0
   MonitorReadsNoGlobal =
       i.closed ≡ true → (x a m k : ℕ) → x < length p.globals → IsByteOf w n f b x a → Acts i t first m → m < k

@@ -24,12 +24,12 @@ pub record HasPages (code : MonitorCode) : Type 0 where
 abbrev pub SoundnessStays : Type 0
 SoundnessStays = (code : MonitorCode) (i : Image) (t : Tables) → HasPages code → Sound code i t → WithOtherCode (Sound code) i t
 
--- it obeys the rules, and the monitor's own code and these tables make it sound: all that is asked where something is promised of every
--- sound image
+-- the image obeys the rules, and the monitor's own code and these tables make it sound: all that is asked where something is promised of
+-- every sound image
 pub record IsSound (i : Image) (t : Tables) : Type 0 where
   pub rules : ObeysRules i
   pub sound : Sound monitor_code i t
 
--- so what holds of every sound image holds of it with other code
+-- a sound image stays sound with other code, and what holds of every sound image holds of it then
 abbrev pub SoundImagesStaySound : Type 0
 SoundImagesStaySound = OfSoundImages monitor_code (WithOtherCode IsSound)

@@ -29,8 +29,8 @@ module _ (w : PlainFirmware) (n : Needs) (f : Final) (b : Board) where
     pub mine : passes region ≡ true
     pub held : HoldsAddress (resolve w) f (plan w n f b) (ForRegion region) a
 
-  -- below the peripherals' part of the memory map a slot holds bytes of a data region's block alone: one that all may write, of a
-  -- region of which the compartment is a writer; any, of a region that it uses
+  -- the bytes that a slot holds below the peripherals' part of the memory map are of a data region's block alone: of a region of which the
+  -- compartment is a writer, where all may write the slot; and of a region that it uses, for any slot
   pub record SlotsAreOwn : Type 0 where
     pub stores : (c a : ℕ) → IsWritable t c a → a < 0x40000000 → IsInRegion (λ r. has (region_at f.regions r).writers c) a
     pub loads : (c a : ℕ) → AnyOf (λ (g : Region). holds g a ≡ true) (compartment_at t c).slots → a < 0x40000000 → IsInRegion (λ r. is_user c (region_at f.regions r)) a

@@ -24,7 +24,7 @@ use Rattle.monitor_runs.specs.Stays.{KeepsMemory}
 use Rattle.image_runs.specs.Isolated.{IsIsolated}
 use Rattle.image_runs.specs.OtherCode.{KeepsTables, WithOtherCode}
 
--- flash with this code in the block of a compartment, the rest of the block being erased
+-- flash with this code in the block of a compartment, and with the rest of the block erased
 abbrev pub with_block : Plan → (flash_base : ℕ) → (compartment : ℕ) → (code flash : List ℕ) → List ℕ
 with_block l base c code flash = write_all 1 ((compartment_spot l c).base - base) (filled_up (compartment_spot l c).size code) flash
 
@@ -41,7 +41,7 @@ pub record AllWithOtherCode (Of : (Image → Tables → Type 0) → Type 0) : Ty
   pub moves : Of (WithOtherCode TellsWhoRuns)
   pub memory : Of (WithOtherCode (λ (j : Image) (u : Tables). EachRun j (KeepsMemory j u)))
 
--- so it is of all sound images, and of those of all planned firmwares
+-- all sound images keep these promises, and so do the images of all planned firmwares
 abbrev pub SoundImagesKeepPromises : Type 0
 SoundImagesKeepPromises = AllWithOtherCode (OfSoundImages monitor_code)
 

@@ -28,9 +28,9 @@ pub fn devices()
     regions_hold_their_blocks();
 }
 
-/// Where a planned firmware asks for no address that is denied, none is loaded or stored for a compartment in any run of its image, whatever
-/// bytes stand in flash behind the tables.
-pub fn denied()
+/// No denied address is loaded or stored for a compartment in any run of the image of a planned firmware that asks for none, whatever bytes
+/// stand in flash behind the tables.
+pub fn planned_runs_keep_off()
     ensures { PlannedRunsKeepOff }
 {
     flash();

@@ -21,7 +21,7 @@ use monitor_sound::promises::sound_images_are_confined;
 use plan_layout_laws::{flash, places, ram};
 
 /// The tables of a planned image end in front of the code of each compartment.
-pub fn kept()
+pub fn code_keeps_tables()
     ensures { CodeKeepsTables }
 {
     flash();
@@ -43,7 +43,7 @@ pub fn sound_images_keep_promises()
     runs_keep_memory();
 }
 
-/// A planned image does all that too, by the tables that it was linked with.
+/// A planned image keeps these promises too, by the tables that it was linked with.
 pub fn planned_images_keep_promises()
     ensures { PlannedImagesKeepPromises }
 {
@@ -52,8 +52,8 @@ pub fn planned_images_keep_promises()
     sound_images_keep_promises();
 }
 
-/// In each of its runs the bytes of globals, of regions and of the stack are changed, and peripherals accessed, only by compartments that
-/// may, whatever bytes stand in flash behind its tables.
+/// The bytes of globals, of regions and of the stack are changed, and peripherals accessed, only by compartments that may, in each run of
+/// a planned image, whatever bytes stand in flash behind its tables.
 pub fn planned_images_stay_isolated()
     ensures { PlannedImagesStayIsolated }
 {

@@ -41,7 +41,7 @@ pub fn starts()
     images_start();
 }
 
-/// Whenever a compartment's instruction comes next, the invariant holds.
+/// The invariant holds whenever a compartment's instruction comes next.
 pub fn invariant()
     ensures { PlannedImagesKeepTheInvariant }
 {
@@ -88,10 +88,10 @@ pub fn kept_runs_are_isolated()
     masks_are_needed();
 }
 
-/// In each run, from whatever a reset leaves: the bytes of a global, and of a data region's block, stay while no compartment that may write
-/// it acts; the stack stays while it is closed to each compartment that acts; one of its functions needs what is lent to a compartment; and
-/// each access of a peripheral is the acting compartment's own, and of a peripheral that it may use.
-pub fn isolated()
+/// Each run is isolated, from whatever a reset leaves: the bytes of a global, and of a data region's block, stay while no compartment that
+/// may write it acts; the stack stays while it is closed to each compartment that acts; one of its functions needs what is lent to a
+/// compartment; and each access of a peripheral is the acting compartment's own, and of a peripheral that it may use.
+pub fn planned_runs_are_isolated()
     ensures { PlannedRunsAreIsolated }
 {
     sound();

@@ -3,7 +3,7 @@
 ghost use Rattle.image_symbols.specs.Standing.{FunctionsStand, PlacesStand};
 ghost use Rattle.image_symbols.specs.Told.{LinesTellPlaces, LinesTellBytes};
 
-/// In the image of a planned firmware the bytes of each function's code stand at its address.
+/// The bytes of each function's code stand at its address, in the image of a planned firmware.
 pub fn functions_stand()
     ensures { FunctionsStand }
 {
@@ -11,7 +11,7 @@ pub fn functions_stand()
     image_promises::code::code();
 }
 
-/// The bytes of each place of a block do too.
+/// The bytes of each place of a block stand at its address too.
 pub fn places_stand()
     ensures { PlacesStand }
 {

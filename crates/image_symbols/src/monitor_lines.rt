@@ -19,7 +19,7 @@ use std::alloc::{AllocError, Global};
 ///
 /// # Errors
 ///
-/// It has more than 32 bits, as in no image.
+/// The sum has more than 32 bits, as in no image.
 pub(crate) fn sum(a: u32, b: u32) -> Result<u32, AllocError>
     ensures { IfOk result (λ n. n ≡ a + b) }
 {

@@ -1,4 +1,4 @@
--- What is answered to an image.
+-- The answer to an image.
 use Rattle.std.specs.Prelude.{◌≡◌, length, Option, Some, None}
 use Rattle.machine_devices.specs.declared.image.Image.{Image}
 use Rattle.monitor_model.specs.declared.tables.Tables.{Tables}

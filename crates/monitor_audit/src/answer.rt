@@ -1,4 +1,4 @@
-//! What is answered to an image.
+//! The answer to an image.
 
 use monitor_model::{AuditCheck, Tables};
 

@@ -70,7 +70,7 @@ fn failure_behind(
 /// # Errors
 ///
 /// Only for want of memory.
-pub fn audited(alloc: Global, image: &Image) -> Result<Audited, AllocError>
+pub fn audited_tables(alloc: Global, image: &Image) -> Result<Audited, AllocError>
     requires { ObeysRules image.now }
     ensures { IfOk result (IsAudited image.now) }
 {
@@ -104,8 +104,8 @@ fn yes(tables: &Tables) -> Audit
     }
 }
 
-/// Whether an image is sound: its flash has the monitor's code with tables of which none of the seven checks fails. Where it is, it is
-/// confined by these tables, whoever made it.
+/// Whether an image is sound: its flash has the monitor's code with tables of which none of the seven checks fails. A sound
+/// image is confined by these tables, whoever made it.
 ///
 /// # Errors
 ///
@@ -116,7 +116,7 @@ pub fn audit(alloc: Global, image: &Image) -> Result<Audit, AllocError>
     ensures confined { IfOk result (IsConfinedWhereYes image.now) }
 {
     sound_images_are_confined();
-    match audited(alloc, image)? {
+    match audited_tables(alloc, image)? {
         Audited::Sound(tables) => Ok(yes(&tables)),
         Audited::Unsound(failed) => Ok(Audit::No {
             check: failed.check,

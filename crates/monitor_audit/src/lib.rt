@@ -21,7 +21,7 @@ mod sites;
 mod tables;
 
 pub use answer::{Audit, Audited, FailedCheck};
-pub use auditing::{audit, audited};
+pub use auditing::{audit, audited_tables};
 pub use header::header_fault;
 pub use inits::inits_fault;
 pub use lends::lends_fault;

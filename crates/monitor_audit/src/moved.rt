@@ -29,7 +29,7 @@ fn high(h1: u16, h2: u16) -> Option<(u8, u16)>
     }
 }
 
-/// What MOVW and MOVT of one register make of it, and 0 where they do not stand there.
+/// The word that MOVW and MOVT make of one register, and 0 where they do not stand there.
 pub(crate) fn moved_word(bytes: &[u8], at: usize) -> u32
     requires { at + 8 ≤ length bytes.now }
     ensures { result ≡ flash.moved_word_at at bytes.now }

@@ -116,7 +116,7 @@ impl Stored for InitRecord {
     }
 }
 
-/// So many of a type, one behind the other.
+/// A number of values of a type, one behind the other.
 pub(crate) fn all_read<T: Stored>(
     alloc: Global,
     bytes: &[u8],

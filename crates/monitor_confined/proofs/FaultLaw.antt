@@ -29,7 +29,7 @@ if_block false x y m n q fr f g e = g e
 pub same_block : (a b : MonitorBlock) (p q : ℕ) (x y : List ℕ) → Resumes a p x ≡ Resumes b q y → a ≡ b
 same_block a b p q x y e = cc
 
--- where the thread goes on, the block is the same
+-- the block is the same where the thread goes on
 fault_block : (i : Image) (t : Tables) (m : MonitorBlock) (psp : ℕ) (memory : List ℕ) (cfsr half : ℕ) (n : MonitorBlock) (q : ℕ) (fr : List ℕ) →
     fault_outcome i t m psp memory cfsr half ≡ Resumes n q fr → m ≡ n
 unfolding fault_outcome

@@ -175,7 +175,7 @@ module _ (laws : RunLaws) (i : Image) (t : Tables) (p : Placed i t) (contract : 
 
   module _ (m : MonitorBlock) (s : State) (h : InvariantHolds i t m s) (n : ℕ) (thread : (run (step i) (suc n) s).protection.handler ≡ false)
       (between : (k : ℕ) → 0 < k → k < suc n → (run (step i) k s).protection.handler ≡ true) where
-    -- where the next state is a thread's, it is the one
+    -- the next state is the one, where it is a thread's
     at_once : (step i s).protection.handler ≡ false → Stays i t s (step i s) → Switches s (run (step i) (suc n) s)
     unfolding run
     at_once th same = ⊎_elim (λ lt. absurd (false≢true (sym th ∙ between 1 (omega arith) (omega (arith, lt)))))

@@ -4,13 +4,13 @@ ghost use Rattle.monitor_confined.specs.FromLaw.{FaultsAreHandled, CallsAreHandl
 
 use machine_model::running::frames;
 
-/// By the monitor's law the handler of MemManage does what confinement asks of it: it ends the machine, or the thread goes on
+/// The handler of MemManage does what confinement asks of it, by the monitor's law: it ends the machine, or the thread goes on
 /// with the block's lists as they were.
 pub fn faults_are_handled()
     ensures { FaultsAreHandled }
 {}
 
-/// By the monitor's law the handler of SVC does what confinement asks of it, for every number: it ends the machine, or enters a
+/// The handler of SVC does what confinement asks of it, by the monitor's law, for every number: it ends the machine, or enters a
 /// target of a site's record, leaves to the last saved entry, lends or unlends.
 pub fn calls_are_handled()
     ensures { CallsAreHandled }

@@ -5,12 +5,12 @@ ghost use Rattle.monitor_confined.specs.WholeRuns.{ChangesKeepOrder, HandlersCon
 use crate::threads::{steps_are_confined, steps_lead};
 use machine_model::running::shapes;
 
-/// What the handlers may make of the monitor's block, by enter, leave, lend, unlend or an emulated access, is orderly again.
+/// The monitor's block stays orderly by what the handlers may make of it: by enter, leave, lend, unlend or an emulated access.
 pub fn changes_keep_order()
     ensures { ChangesKeepOrder }
 {}
 
-/// Where both handlers keep what confinement asks of them, a run that comes to the invariant is confined: its stores, protection,
+/// A run that comes to the invariant is confined, where both handlers keep what confinement asks of them: its stores, protection,
 /// switches and loads.
 pub fn handlers_confine()
     ensures runs { HandlersConfineRuns }

@@ -52,7 +52,7 @@ fn behind(at: u32, size: u32, count: usize) -> u32
     at.wrapping_add(size.wrapping_mul((count % 0x1_0000_0000) as u32))
 }
 
-/// So many bytes, or as many as fit 64 bits.
+/// The bytes of a number of things of this size, or as many as fit 64 bits.
 fn bytes_of(size: u64, count: usize) -> u64
     ensures { result ≡ min (size * count) most }
 {

@@ -191,7 +191,7 @@ module _ (installed : Installed) (thread : State) (Good : ProtectionState → Ty
       pub below : i.ram_base + (o + 32) ≤ top_of i t thread.ram
       below = let x = opens.high in let y = same_top in omega (arith, x, y)
 
-      -- so does one into the frame
+      -- a store into the frame leaves the block too
       frame_off : (y v : ℕ) (n : List ℕ) → y + 4 ≤ 32 → (x : ℕ) → x + 4 ≤ 544 → read 4 (block + x) (write 4 (psp - i.ram_base + y) v n) ≡ read 4 (block + x) n
       frame_off y v n hy x hx =
           ⊎_elim (λ z. read_below 4 (block + x) 4 (psp - i.ram_base + y) v n (omega (arith, z, ep, hx, hy))) (λ z. read_above 4 (block + x) 4 (psp - i.ram_base + y) v n (omega (arith, z, ep, hx, hy))) (apart_from_block i t o top p io)

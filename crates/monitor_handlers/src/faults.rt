@@ -13,7 +13,7 @@ use machine_protection::laws::{
 use monitor_confined::protection::threads_reach;
 use monitor_program::code_size::page_is_full;
 
-/// On every sound image the handler of MemManage does what the outcome of a fault says: it halts by the number of the test that
+/// The handler of MemManage does what the outcome of a fault says, on every sound image: it halts by the number of the test that
 /// fails, it stops at an address that is no multiple of the width, or the thread goes on behind the instruction, whose access is made.
 pub fn faults_keep_the_law()
     ensures { OfSoundImages monitor_code FaultLaw }

@@ -13,7 +13,7 @@ use machine_protection::laws::{
 use monitor_confined::protection::threads_reach;
 use monitor_program::code_size::page_is_full;
 
-/// On every sound image the handler of SVC does what its outcome says: it halts by the number of the test that fails, it stops where
+/// The handler of SVC does what its outcome says, on every sound image: it halts by the number of the test that fails, it stops where
 /// the halfword behind the instruction lies outside flash, or the thread goes on by enter, leave, lend or unlend.
 pub fn svc_keeps_the_law()
     ensures { OfSoundImages monitor_code (λ i t. SvcLaw i t (monitor_code.stub t)) }

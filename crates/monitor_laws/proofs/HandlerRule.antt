@@ -74,7 +74,7 @@ fine_steps_handle i t s Good mode u f = record {
     here : IsAt (core_of u) u
     here = record { ram = refl; protection = refl }
 
--- and so are the steps of a run
+-- the steps of a run that are fine by this rule are a handler's steps too
 pub runs_handle : (i : Image) (t : Tables) (s : State) (Good : ProtectionState → Type 0) → ((q : ProtectionState) → Good q → q.handler ≡ true) → (most : ℕ) (u : State) (P : State → Type 0) → Leads by_mpu i Good (HandlerRule i t s) most u P → HandlerLeads i t s most u P
 runs_handle i t s Good mode most u P l = record { count = l.steps; within = l.within; each = λ k lt. fine_steps_handle i t s Good mode (run (step i) k u) (l.each k lt); holds = l.holds }
 

@@ -64,7 +64,7 @@ module _ (premises : HandlerPremises) where
         const_within
         (must_not_within {m = 0} (λ e. refuse _ refl) (λ e. absurd (eq_false _ _ e (ex ∙ none)))))
 
-    -- the last call that waits goes on: RAM is as HasLeft tells, PSP is that of its frame, and the unit has the regions of its compartment
+    -- the last call that waits goes on: RAM is as `HasLeft` tells, PSP is that of its frame, and the unit has the regions of its compartment
     -- and of its TOP
     pub leave_within : {ks : List PrivilegedSteps} {Q : Outcome → Type 0} (o d back current top mark below : ℕ) {q : ProtectionState} {m : List ℕ} {a2 a3 a4 a5 a6 a7 : ℕ} → psp ≡ i.ram_base + o → IsOff true q → Leaving installed m d back current top mark → InStack i t back top → InStack i t o top → i.ram_base + (o + 32) ≤ entry_top →
         (is : IsTop t below top) → current < length t.comps → HasFirstRegions i t q.mpu →

@@ -6,8 +6,8 @@ ghost use Rattle.monitor_program.specs.TheCode.{monitor_code};
 
 use crate::start_up::ready_images_start;
 
-/// Whatever the monitor's code is: where none of the checks of an image fails, its tables are placed and in form, and its flash
-/// has their words.
+/// The tables of an image of which no check fails are placed and in form, and its flash has their words, whatever the monitor's
+/// code is.
 pub fn sound_images_are_placed()
     ensures { SoundImagesArePlaced }
 {}

@@ -24,8 +24,8 @@ pub fn ready_images_start()
     regions_hold_their_blocks();
 }
 
-/// On a processor whose protection unit has another number of regions than the tables are for, or that has none, start-up
-/// halts with 10: it has written no register of the unit and no byte of RAM.
+/// Start-up halts with 10 on a processor whose protection unit has another number of regions than the tables are for, or that
+/// has none: it has written no register of the unit and no byte of RAM.
 pub fn other_units_halt()
     ensures { OtherUnitsHalt }
 {}

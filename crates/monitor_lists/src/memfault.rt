@@ -6,7 +6,7 @@ ghost use Rattle.monitor_program.specs.MemFault as handler;
 ghost use Rattle.monitor_lists.specs.Made.{Appends, Ends, constants_of};
 
 use crate::halts::{HALT_FAULT, HALT_LOAD, HALT_STORE};
-use crate::opening::{closed_up, opened, record_of};
+use crate::opening::{close_handler, open_handler, record_of};
 use crate::values::{LOAN_SIZE, MOST_LOANS, REFUSED_ACCESS};
 use crate::{Numbers, StepList};
 use base_words::memory::Width;
@@ -17,7 +17,7 @@ use monitor_model::places::{
 use monitor_steps::{PrivilegedCond, PrivilegedOp};
 use std::alloc::{AllocError, Global};
 
-/// Where the halfword in r4 is this one, a width into r6, by r5; else another list.
+/// A test of the halfword in r4: a width into r6, by r5, where it is this one, and else another list.
 fn on_half(list: &mut StepList, half: u32, width: u32, other: StepList) -> Result<(), AllocError>
     ensures { OnOk result (Appends list.old list.new (handler.on_half half width (steps_of other.steps.items))) }
 {
@@ -196,7 +196,7 @@ fn finished(list: &mut StepList) -> Result<(), AllocError>
     list.constant(4, CFSR)?;
     list.load_word(5, 4, 0)?;
     list.store_word(5, 4, 0)?;
-    closed_up(list)?;
+    close_handler(list)?;
     Ok(())
 }
 
@@ -266,7 +266,7 @@ pub fn handler(alloc: Global, c: &Numbers) -> Result<StepList, AllocError>
 {
     let other = loads(alloc, c)?;
     let mut list = StepList::new(alloc);
-    opened(&mut list, c)?;
+    open_handler(&mut list, c)?;
     fault_asked(&mut list)?;
     widths(&mut list, 0x6008, 0x7008, 0x8008, other)?;
     stores(&mut list, c)?;

@@ -56,8 +56,8 @@ fn status_test(list: &mut StepList) -> Result<(), AllocError>
     Ok(())
 }
 
-/// What both handlers begin with: the protection unit is off, and the three tests of the stack.
-pub fn opened(list: &mut StepList, c: &Numbers) -> Result<(), AllocError>
+/// The beginning of both handlers: the protection unit is off, and the three tests of the stack.
+pub fn open_handler(list: &mut StepList, c: &Numbers) -> Result<(), AllocError>
     ensures { OnOk result (Appends list.old list.new (opening.opened (constants_of c.now))) }
 {
     set_control(list, 6, 7, UNIT_OFF)?;
@@ -66,8 +66,8 @@ pub fn opened(list: &mut StepList, c: &Numbers) -> Result<(), AllocError>
     Ok(())
 }
 
-/// What both handlers end with: the protection unit is on, and the exception return.
-pub fn closed_up(list: &mut StepList) -> Result<(), AllocError>
+/// The end of both handlers: the protection unit is on, and the exception return.
+pub fn close_handler(list: &mut StepList) -> Result<(), AllocError>
     ensures { OnOk result (Ends list.old list.new opening.closed_up) }
 {
     set_control(list, 6, 7, UNIT_ON)?;
@@ -122,7 +122,7 @@ fn region(list: &mut StepList, from: u8) -> Result<(), AllocError>
     Ok(())
 }
 
-/// So many regions, whose words stand from a word of the record at r6 on, by r7.
+/// A number of regions, whose words stand from a word of the record at r6 on, by r7.
 fn regions(list: &mut StepList, count: u8, from: u8) -> Result<(), AllocError>
     requires { from + 2 * count < 32 }
     ensures { OnOk result (Appends list.old list.new (opening.regions count from)) }

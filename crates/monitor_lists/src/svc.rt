@@ -6,7 +6,7 @@ ghost use Rattle.monitor_program.specs.Svc as handler;
 ghost use Rattle.monitor_lists.specs.Made.{Appends, Ends, constants_of};
 
 use crate::halts::{HALT_END, HALT_LIMIT, HALT_LOAN, HALT_NUMBER, HALT_SITE, HALT_TARGET};
-use crate::opening::{closed_up, opened, tables_of};
+use crate::opening::{close_handler, open_handler, tables_of};
 use crate::values::{
     FRAME_SIZE, MOST_LOANS, MOST_TARGETS, NO_COMPARTMENT, TARGET_SIZE, THREAD_XPSR,
 };
@@ -196,7 +196,7 @@ fn enter(alloc: Global, c: &Numbers) -> Result<StepList, AllocError>
     frame(&mut list, c)?;
     entered(&mut list)?;
     tables_of(&mut list, c)?;
-    closed_up(&mut list)?;
+    close_handler(&mut list)?;
     Ok(list)
 }
 
@@ -244,7 +244,7 @@ fn leave(alloc: Global, c: &Numbers) -> Result<StepList, AllocError>
     left(&mut list)?;
     restored(&mut list)?;
     tables_of(&mut list, c)?;
-    closed_up(&mut list)?;
+    close_handler(&mut list)?;
     Ok(list)
 }
 
@@ -312,7 +312,7 @@ fn lend(alloc: Global, c: &Numbers) -> Result<StepList, AllocError>
     lend_number(&mut list, c)?;
     lend_place(&mut list, c)?;
     lend_entry(&mut list, c)?;
-    closed_up(&mut list)?;
+    close_handler(&mut list)?;
     Ok(list)
 }
 
@@ -327,7 +327,7 @@ fn unlend(alloc: Global) -> Result<StepList, AllocError>
     list.constant(5, 1)?;
     list.alu(PrivilegedOp::Sub, 4, 4, 5)?;
     list.store_word(4, 1, LOANS)?;
-    closed_up(&mut list)?;
+    close_handler(&mut list)?;
     Ok(list)
 }
 
@@ -342,7 +342,7 @@ fn svc_number(list: &mut StepList) -> Result<(), AllocError>
     Ok(())
 }
 
-/// Where the number in r5 is this one, a list, which ends the handler.
+/// A test of the number in r5: where it is this one, a list, which ends the handler.
 fn on_number(list: &mut StepList, number: u32, chosen: StepList) -> Result<(), AllocError>
     ensures { OnOk result (Appends list.old list.new (handler.on_number number (steps_of chosen.steps.items))) }
 {
@@ -370,7 +370,7 @@ pub fn handler(alloc: Global, c: &Numbers) -> Result<StepList, AllocError>
     ensures { IfOk result (λ list. steps_of list.steps.items ≡ handler.svc (constants_of c.now)) }
 {
     let mut list = StepList::new(alloc);
-    opened(&mut list, c)?;
+    open_handler(&mut list, c)?;
     svc_number(&mut list)?;
     by_number(&mut list, c)?;
     Ok(list)

@@ -31,7 +31,7 @@ module _ (i : Image) (t : Tables) (m : MonitorBlock) (psp : ℕ) (memory : List 
   abbrev pub if_aligned : (width : ℕ) → Outcome → Outcome
   if_aligned w outcome = if nat_eq (address % w) 0 then outcome else StopsUnaligned
 
-  -- where the store reaches the frame itself, the return address rises from what the store made of it
+  -- the return address rises from what the store made of it, where the store reaches the frame itself
   abbrev pub emulated_store : (width : ℕ) → Outcome
   emulated_store w =
       if is_lent (compartment_at t m.current).mask address w m.loans then

@@ -37,7 +37,7 @@ IsFault i s u =
     (u ≡ record s.status { cfsr = 1 })
     ⊎ ((address half : ℕ) × (address < 2 ^ 32) × HoldsHalf i s.core.pc half × (u ≡ record s.status { cfsr = 0x82; mmfar = address }))
 
--- in Handler mode the machine has ended
+-- the machine has ended in Handler mode
 pub record HasEndedInHandler (u : State) (e : End) : Type 0 where
   pub ending : u.ending ≡ Some e
   pub handler : u.protection.handler ≡ true

@@ -59,7 +59,7 @@ module _ (g : Setting) (Inv : MonitorBlock → Context → List ℕ → Type 0) 
         IsStore op w → AtInstr g Inv m x low o lr pc f ram queues (TransferImmediate op 0 1 0) →
         get_or low 1 0 ≡ a → a % w ≡ 0 → location g.image a ≡ InRam c → OffFrame g o c w → IsLentTo g (g.has_loan m.current) m a w →
         Resumes g Inv access_steps (works x low (base g + o) lr pc f ram queues) m (base g + o) (pc + 2) o (write w c (get_or low 0 0) ram) queues
-    -- on a closed board LDR, LDRB and LDRH r0,[r1,#0] have loaded
+    -- LDR, LDRB and LDRH r0,[r1,#0] have loaded, on a closed board
     pub loads : (m : MonitorBlock) (x : Context) (low : List ℕ) (o lr pc : ℕ) (f : Flags) (ram : List ℕ) (queues : List (List ℕ)) (op w a c : ℕ) →
         IsLoad op w → AtInstr g Inv m x low o lr pc f ram queues (TransferImmediate op 0 1 0) →
         get_or low 1 0 ≡ a → a % w ≡ 0 → location g.image a ≡ InRam c → OffFrame g o c w → IsLentTo g (g.has_read_loan m.current) m a w →

@@ -32,13 +32,13 @@ pub record IsMemory (i : Image) (t : Tables) (from : ℕ) (memory ram : List ℕ
 pub record IsLeft (i : Image) (t : Tables) (m b : MonitorBlock) (memory : List ℕ) (u : State) : Type 0 where
   pub is_block : IsBlock i t u.ram b
   pub is_memory : IsMemory i t 0 memory u.ram
-  -- where the block stays, so do all its words, those too that no entry and no loan has; behind them the monitor has its stack
+  -- all words of the block stay where the block stays, those too that no entry and no loan has; behind them the monitor has its stack
   pub words_stay : b ≡ m → IsMemory i t words_end memory u.ram
 
 -- the thread behind the return
 pub record GoesOn (i : Image) (t : Tables) (s u : State) (m b : MonitorBlock) (psp : ℕ) (memory : List ℕ) : Type 0 where
   pub is_left : IsLeft i t m b memory u
-  -- its registers are those of the frame, the others the handler's; that one's stack is empty
+  -- its registers are those of the frame, and the others are the handler's, whose stack is empty
   pub handler : CoreRegisters
   pub core : u.core ≡ unstacked true handler psp (frame_in i psp memory)
   pub msp : handler.sp ≡ t.monitor + block_size
@@ -54,7 +54,7 @@ pub record GoesOn (i : Image) (t : Tables) (s u : State) (m b : MonitorBlock) (p
   pub queues : u.queues ≡ s.queues
   pub ending : u.ending ≡ None
 
--- the machine has ended in the handler, RAM being left so
+-- the machine has ended in the handler, and this is what is left of RAM
 pub record EndsThere (i : Image) (t : Tables) (m b : MonitorBlock) (memory : List ℕ) (u : State) (e : End) : Type 0 where
   pub ended : HasEndedInHandler u e
   pub is_left : IsLeft i t m b memory u
@@ -83,7 +83,7 @@ pub record MonitorLaw (i : Image) (t : Tables) (stub : ℕ) : Type 0 where
   pub svc : (s : State) (m : MonitorBlock) (n : ℕ) → InvariantHolds i t m s → s.ending ≡ None → n < 256 → IsSvc i t n s → is_frame_open by_mpu i s ≡ true →
       let from : State = at_svc i s in
       Leads i t s (svc_steps n) from (Shows i t (svc_outcome i t stub m (frame_at s.core.sp) from.ram n) s m from.ram)
-  -- of a refused fetch the halfword does not matter
+  -- the halfword of a refused fetch does not matter
   pub memfault : (s : State) (m : MonitorBlock) (u : FaultStatus) (half : ℕ) → InvariantHolds i t m s → s.ending ≡ None → IsFault i s u →
       (u.cfsr ≡ 0x82 → HoldsHalf i s.core.pc half) → is_frame_open by_mpu i s ≡ true →
       let from : State = at_memfault i u s in

@@ -15,7 +15,7 @@ pub data Outcome : Type 0 where
   Halts : (number : ℕ) → Outcome
   -- a load from where nothing lies stops the machine, before anything was changed
   StopsAtBus : Outcome
-  -- so does an access whose address is no multiple of its width. No instruction is refused there, since it would have stopped
+  -- an access whose address is no multiple of its width stops it too. No instruction is refused there, since it would have stopped
   StopsUnaligned : Outcome
   -- the thread goes on: the block, the stack pointer at whose frame it does, and RAM but for the monitor's block
   Resumes : (block : MonitorBlock) → (psp : ℕ) → (memory : List ℕ) → Outcome

@@ -37,7 +37,7 @@ site_at t n = get_or t.sites n no_site
 abbrev pub targets_of : Tables → SiteRecord → List TargetRecord
 targets_of t s = take s.count (drop s.first t.targets)
 
--- of targets that share an entry, the last one counts
+-- the last of the targets that share an entry counts
 abbrev pub or_this : Option TargetRecord → (has_entry : Bool) → TargetRecord → Option TargetRecord
 or_this (Some later) b x = Some later
 or_this None true x = Some x

@@ -12,7 +12,7 @@ use Rattle.monitor_model.specs.Values.{loan_size, most_loans, refused_access}
 use Rattle.monitor_program.specs.Constants.{Constants}
 use Rattle.monitor_program.specs.Opening.{must, opened, closed_up, record_of}
 
--- where the halfword in r4 is this one, a width into r6, by r5; else another list; then the rest
+-- a width into r6, by r5, where the halfword in r4 is this one, and else another list; then the rest
 abbrev pub on_half : (half width : ℕ) → (other : PrivilegedSteps) → PrivilegedSteps → PrivilegedSteps
 on_half half width other rest = Const 5 half ▸ Test Eq 4 5 (Const 6 width ▸ End) other ▸ rest
 

@@ -124,7 +124,7 @@ stack_region c rest =
     ▸ Store Word 2 0 region_rasr
     ▸ rest
 
--- regions 2, 3 and the slots of compartment r5, TOP being in r3
+-- regions 2, 3 and the slots of compartment r5; r3 has TOP
 abbrev pub tables_of : Constants → PrivilegedSteps → PrivilegedSteps
 tables_of c rest =
     record_of c

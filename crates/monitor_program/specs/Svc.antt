@@ -38,7 +38,7 @@ site c rest =
     ▸ Load Word 6 6 site_count
     ▸ rest
 
--- where the target at r7 has the entry that is asked for, its compartment into r5; then the next target
+-- the compartment of the target at r7 into r5, where that has the entry that is asked for; then the next target
 abbrev pub target_turn : PrivilegedSteps
 target_turn =
     Load Word 3 7 target_entry
@@ -265,7 +265,7 @@ unlend =
 
 -- ---- the handler
 
--- where the number in r5 is this one, a list, which ends the handler; else the rest
+-- a list, which ends the handler, where the number in r5 is this one; else the rest
 abbrev pub on_number : (number : ℕ) → (list rest : PrivilegedSteps) → PrivilegedSteps
 on_number n list rest = Const 6 n ▸ Test Eq 5 6 list End ▸ rest
 

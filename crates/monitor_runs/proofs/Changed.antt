@@ -58,7 +58,7 @@ module _ (i : Image) (t : Tables) (p : Placed i t) (s : State) (m : MonitorBlock
   pub lent_on_stack : (k a : ℕ) → k < loan_count i t s.ram → loan_address i t s.ram k ≤ a → a < loan_end i t s.ram k → OnStack t a
   lent_on_stack k a lt from to = let n = h.inv.is_block.loan_count_is in lent_at m.loans h.inv.is_block.has_loans h.inv.orderly.loans k a (omega (arith, lt, n)) from to
 
-  -- so is the frame that waits
+  -- the frame that waits lies on the stack too
   frame_at : (es : List Saved) → m.saved ≡ es → (a : ℕ) → InWaitingFrame i t s a → OnStack t a
   frame_at [] is a r = absurd (let d = h.inv.is_block.depth_is ∙ ap (λ (l : List Saved). length l) is in let z = r.0 in omega (arith, d, z))
   frame_at (e ∷ es) is a r =

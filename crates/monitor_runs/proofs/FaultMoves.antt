@@ -115,7 +115,7 @@ module _ (laws : FrameLaws) (i : Image) (t : Tables) (p : Placed i t) (s u : Sta
       left_of true y e = refl
       left_of false y e = cc
 
-  -- the fault is that of a data access, whose instruction was fetched from flash and so lies low
+  -- the fault is that of a data access, whose instruction was fetched from flash and therefore lies low
   data_fault : IsFault i s z → is_data_fault i t m psp memory z.cfsr ≡ true → (s.core.pc + 2 < 2 ^ 32) × (z.cfsr ≡ 0x82)
   data_fault (inl e) d = absurd (let c : is_data_fault i t m psp memory 1 ≡ true = subst (λ (x : FaultStatus). is_data_fault i t m psp memory x.cfsr ≡ true) e d in no c)
     where
@@ -130,7 +130,7 @@ module _ (laws : FrameLaws) (i : Image) (t : Tables) (p : Placed i t) (s u : Sta
       (λ o. either_way (Moves i t s u m n) (is_data_fault i t m psp memory z.cfsr) _ _ done (λ d. let x = data_fault fault d in half_move x.0 x.1 half (stands x.1)) (λ d. halts 8))
       (λ o. halts 4) e
 
--- where the thread goes on, the block is the same: by the move, whichever it is
+-- the block is the same where the thread goes on: by the move, whichever it is
 same_block : (i : Image) (t : Tables) (s u : State) (m n : MonitorBlock) → m ≡ n → Change i t s u m n
 same_block i t s u m n e = subst (λ (b : MonitorBlock). Change i t s u m b) e Emulates
 

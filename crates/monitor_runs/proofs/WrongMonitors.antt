@@ -1,4 +1,4 @@
--- What monitors do that do not isolate, no move of a thread does.
+-- No move of a thread does what monitors do that do not isolate.
 use Rattle.std.proofs.Common.{◌≡◌, ℕ, zero, suc, ◌+◌, ◌-◌, ◌<◌, ◌≤◌, inl, inr, ⊎_elim, List, [], ◌∷◌, length, length-drop, Some, None, sym, ap, ◌∙◌, refl, subst, arith}
 use Rattle.std.proofs.lemmas.Bool.{false≢true, cases_lt}
 use Rattle.base_words.specs.Runs.{run}
@@ -58,7 +58,7 @@ module _ (i : Image) (t : Tables) (s u : State) where
   lends m _ (Lends l two o few number size from to pc) more = (from, to)
   lends m _ (Unlends l ls is marks three pc) more = absurd (let z = ap (λ (x : List Loan). length x) is in omega (arith, more, z))
 
-  -- where as many calls wait, they are the same
+  -- the calls that wait are the same, where as many wait
   same_calls : (m b : MonitorBlock) → Moves i t s u m b → length b.saved ≡ length m.saved → b.saved ≡ m.saved
   same_calls m _ (Executes e) deep = refl
   same_calls m _ (Stores w wide l pc) deep = refl

@@ -33,7 +33,7 @@ pub record IsBounded (i : Image) (t : Tables) (s : State) : Type 0 where
   pub few_lent : loan_count i t s.ram ≤ 32
   -- each live loan, whoever may use it, is part of the stack
   pub lent : (k a : ℕ) → k < loan_count i t s.ram → loan_address i t s.ram k ≤ a → a < loan_end i t s.ram k → OnStack t a
-  -- so is the frame of the call that waits last
+  -- the frame of the call that waits last is part of the stack too
   pub frame : (a : ℕ) → InWaitingFrame i t s a → OnStack t a
 
 -- an address of the stack that its act does not change: it is not below TOP, not in what is lent to it, and not in the word that its
@@ -74,14 +74,14 @@ module _ (i : Image) (t : Tables) (first : State) where
       → ((k : ℕ) → from ≤ k → k < to → Acts i t first k → IsWritable t (current i t (at k).ram) a → ⊥)
       → byte_at i (at to) a ≡ byte_at i (at from) a
 
-  -- and where it has changed, one has acted that has
+  -- a compartment that has the byte in such a slot has acted, where the byte has changed
   abbrev pub DataChangesByItsWriters : Type 0
   DataChangesByItsWriters =
       (from to a : ℕ) → Rests i t first from → Rests i t first to → from ≤ to → IsOutside i t a → (OnStack t a → ⊥)
       → byte_at i (at to) a ≢ byte_at i (at from) a
       → (k : ℕ) × (from ≤ k) × (k < to) × Acts i t first k × IsWritable t (current i t (at k).ram) a
 
-  -- so what one compartment alone may write stays while it does not act
+  -- what one compartment alone may write stays while it does not act
   abbrev pub OwnDataStays : Type 0
   OwnDataStays =
       (c from to a : ℕ) → Rests i t first from → Rests i t first to → from ≤ to → IsOutside i t a → (OnStack t a → ⊥)
@@ -96,7 +96,7 @@ module _ (i : Image) (t : Tables) (first : State) where
       → ((k : ℕ) → from ≤ k → k < to → Acts i t first k → IsClosedTo i t (at k) a)
       → byte_at i (at to) a ≡ byte_at i (at from) a
 
-  -- so do both words of a waiting caller's frame by which it goes on, where no live loan of a compartment that acts meanwhile holds one of
+  -- both words of a waiting caller's frame by which it goes on stay, where no live loan of a compartment that acts meanwhile holds one of
   -- the frame's 32 bytes. Step a of the caller makes the call, b is its callee's first one, c the last one before the depth is again what it
   -- was, and d the caller's next: it is behind its call, with its stack pointer
   abbrev pub FramesAreKept : Type 0
@@ -106,11 +106,11 @@ module _ (i : Image) (t : Tables) (first : State) where
       → ((k l o : ℕ) → b ≤ k → k < c → Acts i t first k → frame_at (at a).core.sp ≤ o → o < frame_at (at a).core.sp + 32 → IsInLoan i t (at k) (running i t (at k)).mask l o → ⊥)
       → HasKeptFrame i t first a b c × IsBehindCall i t first a d
 
-  -- on a board with closed reads each byte that an act's instruction loads, a vector's included, it may read
+  -- on a board with closed reads an act may read each byte that its instruction loads, a vector's included
   abbrev pub ActsReadTheirOwn : Type 0
   ActsReadTheirOwn = i.closed ≡ true → (n : ℕ) → Acts i t first n → Each (AllBytes (MayRead i t (at n))) (turn by_mpu i (at n)).loads
 
-  -- and so far as the monitor's steps for it go, each byte that they load is one that the monitor may load for it
+  -- each byte that the monitor's steps for an act load, as far as these steps go, is one that the monitor may load for it
   abbrev pub MonitorReadsForActs : Type 0
   MonitorReadsForActs =
       i.closed ≡ true → (n k : ℕ) → Acts i t first n → n < k → ((j : ℕ) → n < j → j ≤ k → (at j).protection.handler ≡ true)

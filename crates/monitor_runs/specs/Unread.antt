@@ -1,4 +1,4 @@
--- On a closed board what a compartment may not read has no effect on what it does next.
+-- What a compartment may not read has no effect on what it does next, on a closed board.
 use Rattle.std.specs.Prelude.{◌≡◌, ◌⊎◌, ℕ, ◌+◌, List, length, true, false, None}
 use Rattle.std.proofs.Math.ListN.{get_or}
 use Rattle.machine_devices.specs.declared.image.Image.{Image}

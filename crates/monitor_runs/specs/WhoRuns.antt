@@ -64,14 +64,14 @@ module _ (i : Image) (t : Tables) (first : State) where
 
   -- a call from the thread's step a, with b the first step of its callee and c the last one before the depth is again what it was. Then
   -- all of the block is what it was: whose code runs, up to where the stack is open, which calls wait, and what is lent. The caller goes on
-  -- as its frame says, and so behind its call where nobody changed the frame meanwhile: a compartment may lend the place of its own
+  -- as its frame says, which is behind its call where nobody changed the frame meanwhile: a compartment may lend the place of its own
   abbrev pub CallsComeBack : Type 0
   CallsComeBack =
       (a b c d : ℕ) → HasStarted i t first a → AreNext i t first a b → b ≤ c → AreNext i t first c d
       → ((k : ℕ) → b ≤ k → k ≤ c → (later i t first k).protection.handler ≡ false → depth_at a < depth_at k) → depth_at d ≤ depth_at a
       → (block_at d ≡ block_at a) × GoesOnAt i (later i t first c).ram (frame_at (later i t first a).core.sp) (later i t first d) × (HasKeptFrame a b c → IsBehindCall a d)
 
--- where it is told who runs, calls come back
+-- calls come back where it is told who runs
 abbrev pub WhoRunsComesBack : Type 0
 WhoRunsComesBack = (i : Image) (t : Tables) (first : State) → WhoRuns i t first → CallsComeBack i t first
 

@@ -16,12 +16,12 @@ use monitor_laws::images::{images_start, sound_images_are_placed};
 use monitor_sound::promises::handlers_keep_the_law;
 
 /// The words of a block in RAM have one block.
-pub fn blocks()
+pub fn monitor_blocks()
     ensures { BlocksAreOne }
 {}
 
-/// On every sound image, from whatever a reset leaves: whose code runs, up to where its stack is open, which calls wait and what is lent
-/// changes in seven ways alone, and each tells where the thread goes on. Handlers come back or end the machine.
+/// Whose code runs, up to where its stack is open, which calls wait and what is lent changes in seven ways alone on every sound image, from
+/// whatever a reset leaves, and each tells where the thread goes on. Handlers come back or end the machine.
 pub fn who_runs()
     ensures { SoundImagesTellWhoRuns }
 {
@@ -35,13 +35,13 @@ pub fn who_runs()
     unprivileged_steps();
 }
 
-/// A call that crosses compartments, and has come back: whose code runs, how much of the stack is open, which calls wait and what is lent
-/// is all as it was before the call, and the caller goes on as the frame that waited for it says.
+/// A call that crosses compartments, and has come back, leaves all as it was before the call: whose code runs, how much of the stack is
+/// open, which calls wait and what is lent. The caller goes on as the frame that waited for it says.
 pub fn calls_come_back()
     ensures { WhoRunsComesBack }
 {}
 
-/// On a closed board what the running compartment may not read has no effect on its next step: over another RAM that holds the same
+/// What the running compartment may not read has no effect on its next step, on a closed board: over another RAM that holds the same
 /// wherever it may load, and in the monitor's block, the step makes the same accesses and the same event, and leaves the same state but for
 /// the bytes that it did not store.
 pub fn unread_bytes()
@@ -60,7 +60,7 @@ pub fn unread_bytes()
     unprivileged_steps();
 }
 
-/// All three of every sound image.
+/// The three laws hold of every sound image.
 pub fn sound_runs()
     ensures { OfSoundImages monitor_code TellsWhoRuns }
 {

@@ -16,7 +16,7 @@ use monitor_confined::threads::steps_lead;
 use monitor_laws::images::{images_start, sound_images_are_placed};
 use monitor_sound::promises::handlers_keep_the_law;
 
-/// In each run of a sound image, whatever code its compartments execute: a byte of RAM outside the monitor's block stays while no
+/// A byte of RAM outside the monitor's block stays in each run of a sound image, whatever code its compartments execute, while no
 /// compartment that may change it acts. Off the stack these are the compartments that have it in a slot that they may write. On the
 /// stack it stays while TOP is not above it and it is not lent to the compartment that acts, but for the word that a return hands back.
 /// And each access of a peripheral is the running compartment's own, in one of its slots.

@@ -100,7 +100,7 @@ abbrev reached : State → (low ram : List ℕ) → State
 reached s low ram = record s { core = record s.core { low = low; pc = s.core.pc + 2 }; ram = ram }
 
 module _ (laws : ThreadLaws) (i : Image) (t : Tables) (p : Placed i t) (m : MonitorBlock) (s : State) (h : InvariantHolds i t m s) (live : s.ending ≡ None) where
-  -- ---- behind the handler, the block being the same
+  -- ---- behind the handler, with the block as it was
 
   module _ (has : ℕ → Bool) (w : ℕ) (lent : IsLentWhole i t m has w s) where
     abbrev psp : ℕ

@@ -1,4 +1,4 @@
--- What the handlers come to, where their tests are answered so.
+-- The outcomes of the handlers, by the answers to their tests.
 use Rattle.std.specs.Prelude.{if◌then◌else◌, nat_le}
 use Rattle.std.specs.Int.{bit_at}
 use Rattle.std.proofs.Common.{◌≡◌, ℕ, zero, suc, ◌+◌, ◌-◌, ◌*◌, ◌/◌, ◌%◌, ◌^◌, ◌<◌, ◌≤◌, ◌⊎◌, inl, inr, Bool, true, false, ◌&&◌, List, [], ◌∷◌, length, Option, Some, nat_eq, nat_lt, refl, sym, ap, ◌∙◌, subst, arith}

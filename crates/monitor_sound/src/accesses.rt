@@ -11,9 +11,9 @@ use machine_protection::laws::{
 use monitor_confined::runs::changes_keep_order;
 use monitor_confined::threads::steps_lead;
 
-/// Where the tables are placed and the monitor's law holds, the accesses of a compartment's code that are in its reach have the
-/// effect that they have without protection: in one step where they need no loan, and else behind the handler of MemManage. An
-/// SVC whose stack has room enters its handler, and no handler's return stops because its frame may not be read.
+/// The accesses of a compartment's code that are in its reach have the effect that they have without protection, where the tables
+/// are placed and the monitor's law holds: in one step where they need no loan, and else behind the handler of MemManage. An SVC
+/// whose stack has room enters its handler, and no handler's return stops because its frame may not be read.
 pub fn accesses_have_their_effect()
     ensures { PlacedAccessesHaveTheirEffect }
 {

@@ -12,7 +12,7 @@ use machine_protection::laws::{
 use monitor_confined::runs::changes_keep_order;
 use monitor_confined::threads::steps_lead;
 
-/// Where the tables are placed, the monitor's law and start-up give all that a simulation takes of the monitor: what the unit
+/// The monitor's law and start-up give all that a simulation takes of the monitor, where the tables are placed: what the unit
 /// permits, accesses by a loan, lend and unlend, enter to the callee's first instruction with the call's frame waiting, leave that
 /// undoes it, the end of `main`, and `main`'s first instruction from reset with the initial words in place.
 pub fn laws_serve_simulation()

@@ -27,7 +27,7 @@ use monitor_handlers::svc::svc_keeps_the_law;
 use monitor_laws::images::{images_start, sound_images_are_placed};
 use monitor_program::code_size::page_is_full;
 
-/// On every sound image both handlers keep the monitor's law: each comes to its outcome.
+/// Both handlers keep the monitor's law on every sound image: each comes to its outcome.
 pub fn handlers_keep_the_law()
     ensures { HandlersKeepTheLaw monitor_code }
 {
@@ -35,7 +35,7 @@ pub fn handlers_keep_the_law()
     faults_keep_the_law();
 }
 
-/// Whatever the monitor's code is: on a sound image the monitor's law gives what confinement asks of both handlers.
+/// The monitor's law gives on a sound image what confinement asks of both handlers, whatever the monitor's code is.
 pub fn sound_laws_confine()
     ensures { (code : MonitorCode) → LawsConfine code }
 {

@@ -147,7 +147,7 @@ module _ {j : PermissionTest} {i : Image} {Good : ProtectionState → Type 0} {A
   wrote_gives d {z} {from} {base} {off} {k} {ks} {c} {Q} e ok g w =
       goes_gives {s = Store z from base off k} (ap (λ g. after_store g c (effect j i k)) e) (λ s. (ok, subst (λ g. OnWritten g (λ d. Good d.protection × IsSafe j i Good Allowed k d)) (sym e) (g, s))) w
 
-  -- a compound step s, whose own part has the outcome o and is IsSafe by A, and then the rest
+  -- a compound step s, whose own part has the outcome o and is safe by A, and then the rest
   splits_gives : (s k : PrivilegedSteps) (ks : List PrivilegedSteps) (c : Core) (o : Outcome) (A : Type 0) {Q : Outcome → Type 0} → effect j i s c ≡ then_do o (effect j i k) → (A × OnWent o (λ d. IsSafe j i Good Allowed k d) → IsSafe j i Good Allowed s c) → A → Q (then_do o (λ d. all j i Good Allowed k ks d)) → OnWent o (λ d. safe_all j i Good Allowed k ks d) → Gives j i Good Allowed s ks c Q
   unfolding all safe_all
   splits_gives s k [] c o A {Q} e h a q g = record { holds = subst Q (sym e) q; sound = h (a, g) }

@@ -104,7 +104,7 @@ code (Copy to from rest) = HighRegister 2 from to ∷ code rest
 code (Load width to base offset rest) = TransferImmediate (load_op width) offset base to ∷ code rest
 code (Store width from base offset rest) = TransferImmediate (store_op width) offset base from ∷ code rest
 code (Alu op to a b rest) = operation_code op to a b ++ code rest
--- MRS and MSR, PSP being 9 and CONTROL 20; an ISB behind the latter (B1.4.4)
+-- MRS and MSR, where PSP has the number 9 and CONTROL 20; an ISB stands behind the latter (B1.4.4)
 code (ReadPsp to rest) = SpecialRegister 1 0 to 9 ∷ code rest
 code (WritePsp from rest) = SpecialRegister 0 from 0 9 ∷ code rest
 code (WriteControl from rest) = SpecialRegister 0 from 0 20 ∷ Barrier 1 ∷ code rest

@@ -12,7 +12,7 @@ abbrev pub chain : List (PrivilegedSteps → PrivilegedSteps) → PrivilegedStep
 chain [] rest = rest
 chain (f ∷ fs) rest = f (chain fs rest)
 
--- one step in front of the rest; the lists within it are given so, too. An offset in bytes becomes one in widths
+-- one step in front of the rest; the lists within it are given in the same way. An offset in bytes becomes one in widths
 abbrev pub step_before : PrivilegedStep-F (PrivilegedSteps → PrivilegedSteps) → PrivilegedSteps → PrivilegedSteps
 step_before (Number to value) rest = Const to value rest
 step_before (Copied to from) rest = Copy to from rest

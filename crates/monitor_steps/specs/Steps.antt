@@ -22,7 +22,7 @@ pub data PrivilegedSteps : Type 0 where
   WriteControl : (from : ℕ) (rest : PrivilegedSteps) → PrivilegedSteps
   -- one of two lists, by a comparison of the registers a and b; then the rest
   Test : (cond : PrivilegedCond) (a b : ℕ) (if_true if_false rest : PrivilegedSteps) → PrivilegedSteps
-  -- the body while the register `left` is not 0, one being taken off it behind each turn; at most `most` turns
+  -- the body while the register `left` is not 0, in at most `most` turns; behind each turn 1 is taken off it
   Repeat : (left most : ℕ) (body rest : PrivilegedSteps) → PrivilegedSteps
   -- BKPT; the exception return; a branch to the address in a register, with the link register from another
   Halt : (code : ℕ) (rest : PrivilegedSteps) → PrivilegedSteps

@@ -1,6 +1,6 @@
 -- Calls: the callee is entered, or lacks room.
-use Rattle.std.proofs.Common.{◌≡◌, ℕ, zero, suc, ◌+◌, ◌-◌, ◌*◌, ◌/◌, ◌%◌, ◌^◌, ◌<◌, ◌≤◌, ◌⊎◌, true, false, List, [], length, get_or, set, Option, Some, None, refl, sym, ap, ◌∙◌, subst, arith, inl, inr, ⊎_elim}
-use Rattle.std.proofs.Math.Nat.{div-mul-le_self, suc-mul}
+use Rattle.std.proofs.Common.{◌≡◌, ℕ, ◌+◌, ◌-◌, ◌*◌, ◌/◌, ◌%◌, ◌^◌, ◌<◌, ◌≤◌, ◌⊎◌, true, false, List, [], length, get_or, set, Option, Some, None, refl, sym, ap, ◌∙◌, subst, arith, inl, inr, ⊎_elim}
+use Rattle.std.proofs.Math.Nat.{div-mul-le_self}
 use Rattle.std.proofs.lemmas.Bool.{cases_lt}
 use Rattle.std.proofs.lemmas.List.{get_or-set_same, length-set, length-map}
 use Rattle.base_laws.specs.Lists.{EachBelow}
@@ -33,6 +33,7 @@ use Rattle.refine.specs.Entries.{RunsShort, LacksRoom}
 use Rattle.refine.specs.Entered.{IsEntered}
 use Rattle.refine.specs.Called.{part_end, CalleeStands, IsCalled, IsCrossed}
 use Rattle.refine.proofs.Stops.{entry_stops, call_stops}
+use Rattle.refine.proofs.Limits.{times_eight}
 use Rattle.refine.proofs.Lends.{later, sooner, behind, halted, entered as enters}
 
 -- no whole part of a distance is left, or one is
@@ -175,10 +176,6 @@ module _ (g : Setting) (Inv : MonitorBlock → Context → List ℕ → Type 0) 
             let ent = law.calls.enter m x a.low oc lr pc a.flags ram queues site entry target top (here u) half hit r12 even some refl in
             by k top refl refl some under ent
           where
-            times_eight : (k e : ℕ) → e % 8 ≡ 0 → k * e % 8 ≡ 0
-            times_eight zero e h = let z : 0 * e ≡ 0 = omega arith in ap (λ (x : ℕ). x % 8) z
-            times_eight (suc k) e h = let r = times_eight k e h in let m = suc-mul k e in omega (arith, r, m, h)
-
             by : (k top : ℕ) → top ≡ g.stack + k * g.eighth → k ≡ (oc - 32 - g.stack) / g.eighth → g.stack < top → top ≤ oc - 32 →
                 (ent : Enters g Inv (works x a.low (base g + oc) lr pc a.flags ram queues) (entered m target (base g + top) (base g + oc - 32)) a.low oc top entry (pc + 4) ram queues) →
                 IsCrossed g Inv fn q s m oc w entry target arguments (pc + 4) ram queues ⊎ RunsShort g Inv (LacksRoom g w (part_end g oc) (length m.loans + length (lends_of fn q))) 16384 s

@@ -187,7 +187,7 @@ module _ (k : Build) (Inv : MonitorBlock → Context → List ℕ → Type 0) (s
           keeps_on k Inv sizes S w places fr rest m st.statuses t to (get_or h.low 0 0) (1 + (h.count + 1)) v h.context d.low h.lr _ d.flags h.memory [] (omega arith) (let z = h.within in omega arith) runs ft2 next h.invariant h1 st.threads st.fits
           (whole k Inv sizes S w places fr sf.0.0) typed.held.there (ap (λ (z : ℕ). cut 4 z) (x.1 ∙ cell_read a v us new X ct wid wt fits sp))
 
-      -- with less room than an exception needs, where the stack is guarded, a load that is refused ends the machine
+      -- a load that is refused ends the machine, with less room than an exception needs, where the stack is guarded
       refused : StackLaw k.setting Inv → places fr.number < k.setting.stack + 32 → (o : Instance) (c : ℕ) (a : Area) (v new : Value) (us : List ℕ) (X : Object → Bool) (ct : PlainType) → register fr from ≡ At o c → address_of k places o + c ≡ base k.setting + a.at → a.width ≡ width_of ty → width_of ct ≡ width_of ty → (base k.setting + a.at) % width_of ty ≡ 0 →
           by_mpu st.context.protection Read (base k.setting + a.at) ≡ false → IsWordIn (areas k places (wheres (fr ∷ rest))) (held k places st.statuses (fr ∷ rest) m.globals) a (word_of k places v) (word_of k places new) us → EndsShort k.setting 16384 t
       refused stack less o c a v new us X ct points addr wid wt al nope sp =

@@ -1,4 +1,4 @@
--- StepsQuietly that stop because the frame of the exception that they ask for may not be pushed.
+-- Steps that stop because the frame of the exception that they ask for may not be pushed.
 use Rattle.std.proofs.Common.{◌≡◌, ℕ, suc, ◌+◌, ◌-◌, ◌*◌, ◌%◌, ◌^◌, ◌<◌, Bool, true, false, List, [], ◌∷◌, get_or, set, nat_eq, refl, ap, ap₂, ◌∙◌, arith}
 use Rattle.std.proofs.lemmas.Bool.Decides.{nat_tests}
 use Rattle.base_words.specs.declared.conditions.Flags.{Flags}

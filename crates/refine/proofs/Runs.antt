@@ -27,7 +27,7 @@ pub record EndsBy (IsEnd : End → Type 0) (i : Image) (most : ℕ) (from : Stat
   pub is_end : IsEnd end
   pub runs : Runs by_mpu i count from last []
 
--- it has ended so, in a step behind the first `done` of n steps of the source, whose events it has made
+-- the machine has ended in one of these ways, in a step behind the first `done` of n steps of the source, whose events it has made
 pub record EndsBefore (IsEnd : End → Type 0) (p : Program) (c : List ℕ) (i : Image) (words : ℕ) (queues : List (List ℕ)) (first : State) (n : ℕ) : Type 0 where
   pub steps : ℕ
   pub most : steps ≤ step_limit * (n + 2) + word_limit * words

@@ -186,7 +186,7 @@ module _ (k : Build) (Inv : MonitorBlock → Context → List ℕ → Type 0) (s
           goes_on k Inv sizes S w places fr rest m fs st.statuses t fr.block (suc fr.place) (2 + x.count) x.context x.low x.lr (pc + inst_size (is_some site) y) x.flags x.memory [] (omega arith) (let z = x.within in omega arith)
           (behind_run by_mpu k.setting.image runs0 runs1) (fits_pc k.setting x.context x.low (base k.setting + oc) x.lr _ (pc + inst_size (is_some site) y) x.flags x.memory m.queues e6 x.fits) next x.invariant h1 st.threads st.fits stand
 
-      -- with less room than an exception needs, where the stack is guarded, a store that is refused ends the machine
+      -- a store that is refused ends the machine, with less room than an exception needs, where the stack is guarded
       refused : StackLaw k.setting Inv → (o : Instance) (c : ℕ) (a : Area) (fs : List Frame) (old : ℕ) → places fr.number < k.setting.stack + 32 → register fr to ≡ At o c → address_of k places o + c ≡ base k.setting + a.at → (base k.setting + a.at) % width_of ty ≡ 0 →
           by_mpu st.context.protection Write (base k.setting + a.at) ≡ false →
           IsWordIn (areas k places (wheres (fr ∷ rest))) (held k places st.statuses (fr ∷ rest) m.globals) a old (word_of k places value) (held k places st.statuses fs m.globals) → a.width ≡ width_of ty → EndsShort k.setting 16384 t

@@ -56,7 +56,7 @@ module _ (g : Setting) (Inv : MonitorBlock → Context → List ℕ → Type 0) 
     pub called : Called g Inv from (all_lent g frame m (lends_of fn q)) frame w (entry + entry_size fn (length (lends_of fn q))) oc arguments link ram queues
     pub short : called.goes.count ≤ 8520
 
-  -- so is one of another compartment, whose part of the stack ends at a whole number of eighths
+  -- the same of a callee of another compartment, whose part of the stack ends at a whole number of eighths
   pub record IsCrossed (from : State) (m : MonitorBlock) (oc w entry target : ℕ) (arguments : List ℕ) (ret : ℕ) (ram : List ℕ) (queues : List (List ℕ)) : Type 0 where
     pub room : g.stack + 32 ≤ oc
     pub top : ℕ

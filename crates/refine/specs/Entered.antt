@@ -47,7 +47,7 @@ module _ (g : Setting) (Inv : MonitorBlock → Context → List ℕ → Type 0) 
     pub cleared : (k : ℕ) → length arguments ≤ k → k < w → read 4 (o + 4 * k) memory ≡ 0
     pub return_address : read 4 (o + 4 * w) memory ≡ cut 4 link
 
--- no room for an exception below the frame is asked for, nor that the monitor can keep the loans
+-- an entry asks for no room for an exception below the frame, nor that the monitor can keep the loans
 abbrev pub EntriesEnterOrEnd : Type 0
 EntriesEnterOrEnd =
     (code : MonitorCode) (i : Image) (t : Tables) → let g : Setting = setting_of code i t in let Inv = Invariant i t in

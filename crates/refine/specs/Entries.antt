@@ -26,7 +26,7 @@ use Rattle.refine.specs.Owned.{Owns, MemoryRules}
 use Rattle.refine.specs.Guard.{StackLaw}
 use Rattle.refine.specs.Ends.{NamesStack}
 
--- the machine ends so after at most so many steps, without an event
+-- the machine ends, with an end that names the stack, after at most `most` steps and without an event
 pub record EndsShort (g : Setting) (most : ℕ) (from : State) : Type 0 where
   pub count : ℕ
   pub least : 1 ≤ count
@@ -37,7 +37,7 @@ pub record EndsShort (g : Setting) (most : ℕ) (from : State) : Type 0 where
   pub names : NamesStack end
   pub runs : Runs by_mpu g.image count from last []
 
--- the machine goes on otherwise than the source for this reason, and where the law of the stack holds, it ends so
+-- the machine goes on otherwise than the source for this reason, and where the law of the stack holds, it ends as `EndsShort` says
 pub record RunsShort (g : Setting) (Inv : MonitorBlock → Context → List ℕ → Type 0) (Reason : Type 0) (most : ℕ) (from : State) : Type 0 where
   pub reason : Reason
   pub ends : StackLaw g Inv → EndsShort g most from

@@ -93,7 +93,7 @@ module _ (k : Build) where
         k.setting.has_loan (compartment_of k f) n ≡ true
     pub loads : k.setting.image.closed ≡ true → (f h l n : ℕ) → f < length k.program.funcs → IsListed (need_of k.needs f).read (LocalObject h l) → lend_number k.needs k.groups h l ≡ Some n →
         k.setting.has_read_loan (compartment_of k f) n ≡ true
-    -- on an open board all of RAM may be loaded
+    -- all of RAM may be loaded on an open board
     pub open_loads : k.setting.image.closed ≡ false → (c o : ℕ) → o < k.setting.image.ram_size → k.setting.may_load c (base k.setting + o) ≡ true
 
   pub record Linked : Type 0 where

@@ -158,7 +158,7 @@ module _ (k : Build) where
     block_of [] = first_block k.setting
     block_of (w ∷ ws) = all_lent k.setting (places w.number) (beneath (site_of ws) w.func ws (block_of ws)) (lends_at k w.func)
 
-    -- a frame that lies on the stack, and all of them. Where it lends a local it has room for an exception below it; and so it has
+    -- a frame that lies on the stack, and all of them. It has room for an exception below it where it lends a local, and also
     -- where a call across waits below it, as `some` of the callee tells
     pub record Fits (w : Where) (ws : List Where) : Type 0 where
       pub ends : places w.number + 4 * words_at k w.func + 4 ≡ ceiling ws

@@ -23,7 +23,7 @@ module _ (k : Build) (Inv : MonitorBlock → Context → List ℕ → Type 0) (p
   abbrev pub Serves : (now : List Where) (from : State) (s : SourceState) (es : List Event) → Type 0
   Serves now t s es = Follows k Inv places t s es ⊎ RunsShort k.setting Inv (IsBeyond k Inv places now (wheres_of s)) step_limit t
 
-  -- so does the step from a place where this stands, if it meets no fault
+  -- the step from a place where this stands serves, if it meets no fault
   abbrev pub CaseServes : (fr : Frame) (rest : List Frame) (m : Memory) (t : State) → Here → Type 0
   CaseServes fr rest m t h =
       (HasFault (turn_here k.program k.groups.of fr rest m h).to → ⊥) → LiesFirst k Inv places (wheres_of (turn_here k.program k.groups.of fr rest m h).to)

@@ -65,7 +65,7 @@ pub fn refinement()
     sources();
 }
 
-/// However much stack its frames take, it refines its firmware or stops for want of stack, if also the law of the stack holds.
+/// An image refines its firmware or stops for want of stack, however much stack its frames take, if also the law of the stack holds.
 pub fn refinement_or_stop()
     ensures { LinkedImagesRefineOrStop }
 {

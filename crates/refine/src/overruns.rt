@@ -11,14 +11,14 @@ use machine_protection::laws::{
 use monitor_confined::protection::threads_reach;
 use monitor_sound::calls::calls_run_short;
 
-/// Where no home that a compartment may write lies in the guard below the stack, the unit refuses each store there.
+/// The unit refuses each store to the guard below the stack, where no home that a compartment may write lies in it.
 pub fn guards_refuse()
     ensures { GuardsRefuse }
 {
     threads_reach();
 }
 
-/// A guarded stack's law holds.
+/// The law of the stack holds of a guarded stack.
 pub fn guards_serve()
     ensures { GuardsServe }
 {
@@ -34,7 +34,7 @@ pub fn entries_without_room_stop()
     ensures { EntriesWithoutRoomStop }
 {}
 
-/// An SVC below which no exception's frame fits does too.
+/// An SVC below which no exception's frame fits ends the machine too.
 pub fn calls_without_room_stop()
     ensures { CallsWithoutRoomStop }
 {}

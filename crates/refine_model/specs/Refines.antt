@@ -23,7 +23,7 @@ HasFault (Ended (Faulted f)) = Unit {0}
 HasFault _ = ⊥
 
 -- the machine has ended exactly where the source has: with halt 0 where the source returned, and by the end of input
--- where the source ended so
+-- where the source came to the end of input
 abbrev pub EndsAlike : SourceState → Option End → Type 0
 EndsAlike (Running frames m) e = e ≡ None
 EndsAlike (Ended Returned) e = e ≡ Some (Halt 0)

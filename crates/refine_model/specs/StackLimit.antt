@@ -13,7 +13,7 @@ use Rattle.plan_model.specs.Crossing.{site_number}
 use Rattle.plan_model.specs.Lending.{lend_count}
 use Rattle.code_model.specs.FrameShape.{frame_size}
 
--- what the entry of an exception pushes: so much has to be left below each frame
+-- the bytes that the entry of an exception pushes: as many have to be left below each frame
 abbrev pub exception_bytes : ℕ
 exception_bytes = 32
 

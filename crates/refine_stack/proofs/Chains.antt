@@ -7,7 +7,7 @@ use Rattle.refine_stack.specs.Taken.{value}
 use Rattle.refine_stack.specs.Worst.{IsGiven, IsLoweredBy, IsBefore, IsChainBy, IsWorstChain}
 
 module _ (frames : List ℕ) (stack : ℕ) (cs : List Call) (ts : List ℕ) (main needed : ℕ) where
-  -- what stands so far, and what goes on behind it
+  -- what stands up to here, and what goes on behind it
   pub record IsBack (path : List ℕ) (func : ℕ) : Type 0 where
     pub front : List ℕ
     pub is : path ≡ front ++ func ∷ []

@@ -88,7 +88,7 @@ module _ (cs : List Call) (to : ℕ) where
       small = small_new;
     }
 
-  -- where a level adds nothing, no walk is longer
+  -- no walk is longer where a level adds nothing
   module _ (k : ℕ) (far : List ℕ) (a : AreFarUpTo k far) (b : AreFarUpTo (k + 1) far) where
     all_known : (f : ℕ) (xs : List ℕ) → Walk f xs → (0 < get_or far f 0) × (get_or far f 0 ≤ length xs + 1)
     all_known f [] w = b.covers f [] w (omega arith)

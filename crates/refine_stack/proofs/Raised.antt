@@ -46,7 +46,7 @@ module _ (frames : List ℕ) (stack : ℕ) (cs : List Call) (main : ℕ) where
                 (x.crosses, get_or old x.from 0, listed, s.1, e.2),
           )
 
-  -- what calls told so far leave
+  -- what the calls leave that were told up to here
   pub record IsTold (i : ℕ) (old new : List ℕ) (changed : Bool) : Type 0 where
     pub count : length new ≡ length old
     pub grows : (f : ℕ) → get_or old f 0 ≤ get_or new f 0

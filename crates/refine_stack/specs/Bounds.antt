@@ -27,17 +27,17 @@ module _ (p : Program) (n : Needs) (g : Groups) (stack : ℕ) where
   IsChain (f ∷ []) = f ≡ p.main
   IsChain (h ∷ f ∷ fs) = IsLowest (Gives h) f × IsChain (f ∷ fs)
 
-  -- a function in which a path ends that needs so many bytes, an exception's included
+  -- a function in which a path ends that needs `needed` bytes, with those of an exception
   abbrev pub IsEnd : (needed : ℕ) → (func : ℕ) → Type 0
   IsEnd needed f = (t : ℕ) × IsDeepest p n g stack f t × (needed ≡ t + exception_bytes)
 
-  -- the chain of the lowest-numbered function that needs so many
+  -- the chain of the lowest-numbered function in which such a path ends
   abbrev pub IsWorst : (needed : ℕ) → List ℕ → Type 0
   IsWorst needed [] = ⊥
   IsWorst needed (h ∷ fs) = IsLowest (IsEnd needed) h × IsChain (h ∷ fs)
 
-  -- no function that is reached reaches itself; every path leaves room for an exception in so many bytes; and the path is the worst,
-  -- `main` first
+  -- no function that is reached reaches itself; every path leaves room for an exception in `needed` bytes; and the path is the
+  -- worst, `main` first
   pub record IsBound (needed : ℕ) (path : List ℕ) : Type 0 where
     pub no_cycle : HasNoCycle (Joins n) p.main
     pub most : (fs : List ℕ) (t : ℕ) → IsPath p n g stack fs t → t + exception_bytes ≤ needed

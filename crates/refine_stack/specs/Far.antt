@@ -5,7 +5,7 @@ use Rattle.refine_stack.specs.Cycles.{IsWalk, IsFirst}
 use Rattle.refine_stack.specs.declared.calls.Call.{Call}
 use Rattle.refine_stack.specs.Listed.{Calls}
 
--- from a call's target so many calls more come to a function
+-- `more` further calls lead from a call's target to the function `to`
 abbrev pub near : List ℕ → (to more : ℕ) → Call → Bool
 near far to zero x = nat_eq x.to to
 near far to (suc m) x = nat_eq (get_or far x.to 0) (suc m)

@@ -1,5 +1,5 @@
 -- Beyond the program's claim: only laws, proofs and functions inside the tool cite this file.
--- What is answered, by the list of calls.
+-- The answer, by the list of calls.
 use Rattle.std.specs.Prelude.{ℕ, ◌≤◌, List, reverse, get_or}
 use Rattle.refine_stack.specs.declared.answer.StackAnswer.{StackAnswer}
 use Rattle.refine_stack.specs.declared.answer.StackAnswer.TheVariants.{Cycle, Bound}

@@ -1,6 +1,6 @@
 -- Call paths, and how many bytes of the stack the frames of one take.
 --
--- The position of a path (`StackLimit` of `simulate`) is the stack's size less what its frames take, as a whole number that may fall
+-- The position of a path (`StackLimit` of `refine_model`) is the stack's size less what its frames take, as a whole number that may fall
 -- below 0. So what is taken is counted here and not the position: it goes on where no stack is left. A stack is eight eighths, so what a
 -- crossing rounds down of the position it rounds up of what is taken.
 use Rattle.std.specs.Prelude.{◌≡◌, ℕ, ◌+◌, ◌/◌, ◌<◌, ◌≤◌, Bool, true, false, List, [], ◌∷◌, length, Contains}

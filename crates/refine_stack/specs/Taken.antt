@@ -5,7 +5,7 @@ use Rattle.refine_stack.specs.Paths.{taken_above}
 use Rattle.refine_stack.specs.declared.calls.Call.{Call}
 use Rattle.refine_stack.specs.Listed.{call}
 
--- a number is at least so much afterwards, and else all are as before
+-- a number is at least `least` afterwards, and else all are as before
 pub record IsRaised (func least : ℕ) (old new : List ℕ) (changed : Bool) : Type 0 where
   pub grows : (x : ℕ) → get_or old x 0 ≤ get_or new x 0
   pub done : least ≤ get_or new func 0
@@ -24,7 +24,7 @@ pub record IsRelaxed (frames : List ℕ) (stack : ℕ) (x : Call) (old new : Lis
   pub same : changed ≡ false → new ≡ old
 
 module _ (frames : List ℕ) (stack : ℕ) (cs : List Call) where
-  -- functions, the last first, are a path by these calls from `main`, and it takes so much
+  -- functions, the last first, are a path by these calls from `main`, and it takes `taken` bytes
   abbrev pub IsRoute : (main : ℕ) → List ℕ → (taken : ℕ) → Type 0
   IsRoute main [] t = ⊥
   IsRoute main (f ∷ []) t = (f ≡ main) × (t ≡ get_or frames f 0)

@@ -5,4 +5,4 @@ use Rattle.image_promises.proofs.guards.images_are_never_wrong.Goals as goal
 pub returns : goal.returns
 returns c w S n f b is least needs free =
     c.never_wrong.ensures w f.groups (initial_word_count (planned_tables w n f b)) (planned_image w n f b)
-    (c.refined_or_stopped.ensures w S n f b is least needs (c.stacks.ensures w n f b is free))
+    (c.refined_or_stopped_images.ensures w S n f b is least needs (c.stacks.ensures w n f b is free))

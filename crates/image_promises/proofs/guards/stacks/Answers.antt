@@ -10,4 +10,4 @@ returns c w n f b is free =
     (c.sound_images_are_placed.ensures monitor_code (planned_image w n f b) (planned_tables w n f b) rules sound).0
     (c.stubs_stand.ensures (planned_image w n f b) (planned_tables w n f b) rules sound)
     (c.handlers_keep_the_law.ensures (planned_image w n f b) (planned_tables w n f b) rules sound)
-    (c.guarded.ensures w n f b is free)
+    (c.guarded_plans.ensures w n f b is free)

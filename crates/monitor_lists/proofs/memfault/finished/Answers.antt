@@ -3,7 +3,7 @@ use Rattle.monitor_lists.proofs.memfault.finished.Goals as goal
 
 pub returns : goal.returns
 returns c =
-    c.in_ok-closed_up.ensures
+    c.in_ok-close_handler.ensures
     ∙ c.in_ok-store_word-2.ensures _
     ∙ c.in_ok-load_word-2.ensures _
     ∙ c.in_ok-constant-2.ensures _

@@ -4,7 +4,7 @@ use Rattle.monitor_lists.proofs.svc.enter.Goals as goal
 
 pub returns : goal.returns
 returns c =
-    c.in_ok-closed_up.ensures
+    c.in_ok-close_handler.ensures
     ∙ c.in_ok-tables_of.ensures _
     ∙ c.in_ok-entered.ensures _
     ∙ c.in_ok-frame.ensures _

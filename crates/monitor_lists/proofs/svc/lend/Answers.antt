@@ -4,7 +4,7 @@ use Rattle.monitor_lists.proofs.svc.lend.Goals as goal
 
 pub returns : goal.returns
 returns c =
-    c.in_ok-closed_up.ensures
+    c.in_ok-close_handler.ensures
     ∙ c.in_ok-lend_entry.ensures _
     ∙ c.in_ok-lend_place.ensures _
     ∙ c.in_ok-lend_number.ensures _

@@ -4,7 +4,7 @@ use Rattle.monitor_lists.proofs.svc.unlend.Goals as goal
 
 pub returns : goal.returns
 returns c =
-    c.in_ok-closed_up.ensures
+    c.in_ok-close_handler.ensures
     ∙ c.in_ok-store_word.ensures _
     ∙ c.in_ok-alu.ensures _
     ∙ c.in_ok-constant.ensures _

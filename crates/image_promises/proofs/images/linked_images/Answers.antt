@@ -1,5 +1,5 @@
 use Rattle.image_promises.proofs.Linking.{are_linked}
-use Rattle.image_promises.proofs.images.linked.Goals as goal
+use Rattle.image_promises.proofs.images.linked_images.Goals as goal
 
 pub returns : goal.returns
 returns c =

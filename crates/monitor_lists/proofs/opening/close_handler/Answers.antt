@@ -1,6 +1,6 @@
 use Rattle.std.proofs.Common.{◌∙◌}
 use Rattle.monitor_steps.specs.Steps.{End}
-use Rattle.monitor_lists.proofs.opening.closed_up.Goals as goal
+use Rattle.monitor_lists.proofs.opening.close_handler.Goals as goal
 
 pub returns : goal.returns
 returns c =

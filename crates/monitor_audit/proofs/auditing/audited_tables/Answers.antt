@@ -4,7 +4,7 @@ use Rattle.monitor_model.specs.Checks.{header_fails}
 use Rattle.monitor_audit.specs.Findings.{IsFound}
 use Rattle.monitor_audit.specs.Answers.{own_tables}
 use Rattle.monitor_audit.proofs.AuditTurns.{at_header, at_tables}
-use Rattle.monitor_audit.proofs.auditing.audited.Goals as goal
+use Rattle.monitor_audit.proofs.auditing.audited_tables.Goals as goal
 
 pub returns-in-Some : goal.returns-in-Some
 returns-in-Some c =

@@ -1,5 +1,5 @@
 use Rattle.image_runs.proofs.KeptOff.{keep_off}
-use Rattle.image_runs.proofs.denied.denied.Goals as goal
+use Rattle.image_runs.proofs.denied.planned_runs_keep_off.Goals as goal
 
 pub returns : goal.returns
 returns c =

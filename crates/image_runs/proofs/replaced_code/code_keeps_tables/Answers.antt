@@ -1,7 +1,7 @@
 use Rattle.image_promises.proofs.Facts.{PlanLaws}
 use Rattle.image_promises.proofs.ReadBack.{ReadLaws}
 use Rattle.image_runs.proofs.Behind.{code_keeps_tables}
-use Rattle.image_runs.proofs.replaced_code.kept.Goals as goal
+use Rattle.image_runs.proofs.replaced_code.code_keeps_tables.Goals as goal
 
 pub returns : goal.returns
 returns c =

@@ -1,5 +1,5 @@
 use Rattle.std.proofs.Common.{◌∙◌}
-use Rattle.monitor_lists.proofs.opening.opened.Goals as goal
+use Rattle.monitor_lists.proofs.opening.open_handler.Goals as goal
 
 pub returns : goal.returns
 returns c = λ rest.
