@@ -94,7 +94,7 @@ impl Pairs {
     /// # Errors
     ///
     /// There is no memory for them.
-    pub fn done(self, alloc: Global, program: &Program) -> Result<PointsTo, AllocError>
+    pub fn into_sets(self, alloc: Global, program: &Program) -> Result<PointsTo, AllocError>
         requires nodes { length self.rows ≡ sum (numbering_of (program_of program.now)).nodes }
         requires objects { self.objects ≡ sum (numbering_of (program_of program.now)).objects }
         ensures numbers { IfOk result (λ sets. sets.numbers ≡ numbering_of (program_of program.now)) }

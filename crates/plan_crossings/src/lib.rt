@@ -120,7 +120,7 @@ pub fn call_sites(
 }
 
 /// The locals that are lent: the lendable ones, if there are compartments to lend them to.
-pub fn lent<'a>(needs: &'a Needs, groups: &Groups) -> &'a [(u32, u32)]
+pub fn lent_locals<'a>(needs: &'a Needs, groups: &Groups) -> &'a [(u32, u32)]
     ensures { result.now ≡ lending.lent needs.now groups.now }
 {
     if groups.count > 1 {

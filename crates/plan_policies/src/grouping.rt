@@ -7,7 +7,7 @@ ghost use Rattle.plan_model.specs.Compartments.{compartments};
 ghost use Rattle.plan_policies.specs.Callbacks.{IsGrouping, AreAnswers};
 ghost use Rattle.plan_policies.specs.Functions.{AreFunctions};
 
-use crate::numbering::numbered;
+use crate::numbering::compartments_by_group;
 use plan_model::groups::{FuncFacts, Groups};
 use std::alloc::{AllocError, Global};
 
@@ -82,5 +82,5 @@ pub fn groups<F: Fn(&FuncFacts) -> u32>(
     ensures { IfOk result (λ made. (groups : List ℕ) × AreAnswers (FnReturnsAt F.Fn grouping.now.callback) facts.now groups × (made ≡ compartments groups)) }
 {
     let groups = answers(alloc, grouping, facts)?;
-    numbered(alloc, &groups, grouping.count)
+    compartments_by_group(alloc, &groups, grouping.count)
 }
