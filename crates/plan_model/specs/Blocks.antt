@@ -8,8 +8,8 @@ use Rattle.plan_model.specs.Regions.{global_size}
 use Rattle.plan_model.specs.Covers.{least_power}
 
 -- the least power of two that is at least n and at least 32
-unfoldable pub block : ℕ → ℕ
-block n = least_power (nat_le n)
+unfoldable pub block_size_for : ℕ → ℕ
+block_size_for n = least_power (nat_le n)
 
 -- ---- the globals of a region
 

@@ -12,7 +12,7 @@ use Rattle.plan_model.specs.declared.plan.Lowest.TheVariants.{Largest, Stack}
 use Rattle.plan_model.specs.declared.plan.Spot.{Spot}
 use Rattle.plan_model.specs.Choices.{first_of, first_greatest}
 use Rattle.plan_model.specs.Regions.{region_at, users}
-use Rattle.plan_model.specs.Blocks.{block, region_bytes, has_eighths, open_eighths}
+use Rattle.plan_model.specs.Blocks.{block_size_for, region_bytes, has_eighths, open_eighths}
 use Rattle.plan_model.specs.RamBlocks.{RamUse, ForStack, RamBlock, holds_globals, same_use, full_block, other_blocks, ram_blocks, falling}
 
 -- the end of a block whose subregions are taken out, so that another region may stand there
@@ -129,7 +129,7 @@ ram_needed p f b = (ram_of p f b).used
 
 -- the sizes of the data regions' blocks
 abbrev pub region_sizes : Program → List DataRegion → List ℕ
-region_sizes p rs = map (λ (r : DataRegion). block (region_bytes p r.globals)) rs
+region_sizes p rs = map (λ (r : DataRegion). block_size_for (region_bytes p r.globals)) rs
 
 -- the compartment that a refusal names: the lowest user of the first of the data regions with the largest block, if there is one
 abbrev pub ram_named : Program → Final → Option ℕ
