@@ -3,7 +3,7 @@
 ghost use Rattle.std.specs.Prelude.{◌≡◌};
 ghost use Rattle.plan_model.specs.Blocks as blocks;
 
-/// The least power of two that is at least a number and at least 32.
+/// The size of the block for some bytes: the smallest power of two, from 32 on, that is not below them.
 pub(crate) fn block_size(bytes: u32) -> u64
     ensures { result ≡ blocks.block_size_for bytes }
 {

@@ -7,7 +7,7 @@ use Rattle.ir_model.specs.Resolved.{Program, global_at}
 use Rattle.plan_model.specs.Regions.{global_size}
 use Rattle.plan_model.specs.Covers.{least_power}
 
--- the least power of two that is at least n and at least 32
+-- the size of the block for n bytes: the smallest power of two, from 32 on, that is not below n
 unfoldable pub block_size_for : ℕ → ℕ
 block_size_for n = least_power (nat_le n)
 

@@ -1,5 +1,6 @@
--- Where the blocks of RAM lie: in falling order of size, one behind the other from the base of RAM, but for the blocks of regions
--- that find room in the tail of another region's block. A board may ask for the stack at the base; the others then stand behind it.
+-- The places of the blocks of RAM. From the base of RAM on each block stands behind the one before it, by falling size; but a region's
+-- block stands in the tail of another region's block where it has room there. A board may ask for the stack at the base; the others
+-- then stand behind it.
 use Rattle.std.specs.Prelude.{ℕ, ◌+◌, ◌*◌, ◌/◌, Bool, ◌&&◌, List, [], ◌∷◌, ◌++◌, map, get_or, set, Option, Some, None, position, find, option_map, option_and_then, max, if◌then◌else◌, nat_lt, nat_le}
 use Rattle.std.specs.List.{fold}
 use Rattle.ir_model.specs.Layout.{rounded_up}
@@ -44,7 +45,7 @@ tail_of base b =
     then record { from = base + b.size / 8 * open_eighths b.size b.bytes; to = base + b.size } ∷ []
     else []
 
--- the base is the tail's beginning rounded up to the block's size, and the end is at most the tail's end
+-- a block of this size has room in a tail: it begins at the first multiple of its size in the tail, and ends no later than the tail
 abbrev pub fits : (size : ℕ) → Tail → Bool
 fits size t = nat_le (rounded_up t.from size + size) t.to
 
@@ -131,6 +132,6 @@ ram_needed p f b = (ram_of p f b).used
 abbrev pub region_sizes : Program → List DataRegion → List ℕ
 region_sizes p rs = map (λ (r : DataRegion). block_size_for (region_bytes p r.globals)) rs
 
--- the compartment that a refusal names: the lowest user of the first of the data regions with the largest block, if there is one
+-- the compartment that a refusal names: of the data region with the largest block, or the first of several, the lowest user, if it has one
 abbrev pub ram_named : Program → Final → Option ℕ
 ram_named p f = option_and_then (λ r. first_of (users (region_at f.regions r))) (first_greatest (region_sizes p f.regions))

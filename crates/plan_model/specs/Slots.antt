@@ -24,7 +24,7 @@ pub record SlotUse : Type 0 where
   pub srd : ℕ
   pub rights : Rights
 
--- a region is read-only for a user that is no writer
+-- a writer of a region may store in it and load from it, and another user may only load
 abbrev pub data_rights : data_region.DataRegion → (compartment : ℕ) → Rights
 data_rights r c = if has r.writers c then Ram else Background
 
