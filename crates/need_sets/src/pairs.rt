@@ -44,7 +44,7 @@ impl Model for Pairs {
 }
 
 impl Pairs {
-    /// No pair of so many nodes and so many objects.
+    /// No pair, over `nodes` nodes and `objects` objects.
     ///
     /// # Errors
     ///
@@ -79,7 +79,7 @@ impl Pairs {
         self.rows.add(node, object)
     }
 
-    /// The object at a place of a node's list, from 0; none where the list has no such place. One step.
+    /// The object at a place of a node's list, from 0; `None` if the list has no such place. One step.
     pub fn member<L: Ledger>(&self, node: u32, place: u32, steps: &mut StepCount<L>) -> Option<u32>
         requires node { node < length self.now.rows }
         ensures exact { result ≡ slice_get (row self.now.rows node) place }

@@ -59,7 +59,7 @@ pub fn crossing_sites<'a>(
     Ok(sites)
 }
 
-/// How many targets crossing sites have together. None where the number takes more than a word of this machine.
+/// How many targets crossing sites have together. `None` if the number takes more than a word of this machine.
 pub fn target_count(sites: &[&SiteNeed]) -> Option<usize>
     ensures { IfSome result (λ n. n ≡ crossing.target_count (seen_sites sites.now)) }
 {

@@ -1,4 +1,4 @@
-//! What is known of a data region, so that the cost of each join is told fast.
+//! Facts of a data region by which the cost of each join is told fast.
 
 ghost use Rattle.std.specs.Prelude.{◌≡◌, ◌*◌, IfOk, IfSome};
 ghost use Rattle.ir_program.specs.Seen.{program_of};

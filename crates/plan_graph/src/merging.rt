@@ -1,4 +1,4 @@
-//! A graph that is being merged.
+//! A graph while it is merged.
 
 ghost use Rattle.std.specs.Prelude.{◌≡◌, ◌<◌, ◌+◌, [], ◌∷◌, ◌++◌, length, map, OnOk, IfOk, option_map};
 ghost use Rattle.std.specs.List.{All};
@@ -20,7 +20,7 @@ use plan_model::graph::{Cover, DataRegion, Graph};
 use std::alloc::{AllocError, Global};
 use std::mem::replace;
 
-/// A graph that is being merged, with what is known of its data regions, so that no join computes it anew.
+/// A graph while it is merged, with facts of its data regions that no join computes anew.
 pub(crate) struct Merging<'a, 'b> {
     /// The firmware.
     pub(crate) program: &'a Program<'b>,

@@ -39,7 +39,7 @@ module _ (p : Program) (f : Final) (s : Sizes) (b : Board) (ok : IsBoard b) (fit
   abbrev plan : Plan
   plan = plan_of p f s b
 
-  -- a block of so many bytes holds them
+  -- the block for n bytes holds them
   bytes_held : (u : RamUse) (n : ℕ) → (block_for plan u).size ≡ block_size_for n → n ≤ open_bytes (block_for plan u).size n
   bytes_held u n e =
       let some = block_positive n in

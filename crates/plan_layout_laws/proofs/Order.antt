@@ -40,7 +40,7 @@ module _ (xs : List ℕ) where
       let same = ap (λ v. sum (filter (λ s. nat_eq s v) (take j xs))) e in
       omega arith
 
-  -- so no two stand at the same place
+  -- no two stand at the same place
   pub one_first : (j k : ℕ) → j < length xs → k < length xs → j ≢ k → (bytes_before xs j + get_or xs j 0 ≤ bytes_before xs k) ⊎ (bytes_before xs k + get_or xs k 0 ≤ bytes_before xs j)
   one_first j k l h ne = ⊎_elim (λ lt. inr (larger_first k j h lt)) (λ le. ⊎_elim (λ lt. inl (larger_first j k l lt)) (λ ge. equal (omega arith)) (cases_lt (get_or xs k 0) (get_or xs j 0))) (cases_lt (get_or xs j 0) (get_or xs k 0))
     where

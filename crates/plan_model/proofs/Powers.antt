@@ -1,4 +1,4 @@
--- The least power of two that passes a test, and the block that holds so many bytes.
+-- The least power of two that passes a test, and the block that holds n bytes.
 use Rattle.std.proofs.Common.{◌≡◌, ℕ, zero, suc, ◌+◌, ◌/◌, ◌^◌, ◌≤◌, ◌<◌, ◌⊎◌, inl, inr, Bool, true, false, cond, List, Some, max, nat_le, refl, lit<, sym, ap, subst, ◌∙◌, arith}
 use Rattle.std.specs.Prelude.{find, map, unwrap_or}
 use Rattle.std.specs.List.{range_with_len}
@@ -42,7 +42,7 @@ block_is n m l h holds below = least_power_is (nat_le n) m l h (le-leb n (2 ^ m)
     fails i true e lt = let le = leb-true n (2 ^ i) e in absurd (omega arith)
     fails i false e lt = e
 
--- so it is what `next_power_of_two` gives of n and 32
+-- the size of the block for n bytes is what `next_power_of_two` gives of n and 32
 pub next_power_is_block : (n p : ℕ) → n ≤ 2 ^ 32 → IsPowerOfTwo p → max n 32 ≤ p → p / 2 < max n 32 → block_size_for n ≡ p
 next_power_is_block n p small (k, is) least most =
     block_is n k (⊎_elim (λ lt. absurd (too_small lt)) (λ le. le) (cases_lt k 5)) (⊎_elim (λ lt. absurd (too_large lt)) (λ le. le) (cases_lt 32 k)) (omega arith) below ∙ sym is
@@ -93,7 +93,7 @@ small_block n small = by (block_found n)
     by (inl h) = h
     by (inr e) = absurd (omega (arith, small, e))
 
--- and of so few bytes
+-- and of at most 2 ^ 32 bytes
 pub block_holds : (n : ℕ) → n ≤ 2 ^ 32 → n ≤ block_size_for n
 block_holds n few = by (block_found n)
   where

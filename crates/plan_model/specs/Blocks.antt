@@ -45,7 +45,7 @@ has_eighths size = nat_le 256 size
 abbrev pub quotient_up : (n d : ℕ) → ℕ
 quotient_up n d = (n + (d - 1)) / d
 
--- how many eighths of a block begin before the end of so many bytes
+-- how many eighths of a block begin before the end of the bytes that it holds
 unfoldable pub open_eighths : (size bytes : ℕ) → ℕ
 open_eighths size bytes = quotient_up bytes (size / 8)
 

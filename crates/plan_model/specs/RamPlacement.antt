@@ -16,7 +16,7 @@ use Rattle.plan_model.specs.Regions.{region_at, users}
 use Rattle.plan_model.specs.Blocks.{block_size_for, region_bytes, has_eighths, open_eighths}
 use Rattle.plan_model.specs.RamBlocks.{RamUse, ForStack, RamBlock, holds_globals, same_use, full_block, other_blocks, ram_blocks, falling}
 
--- the end of a block whose subregions are taken out, so that another region may stand there
+-- the end of a block whose subregions are taken out; another region may stand there
 pub record Tail : Type 0 where
   pub from : ℕ
   pub to : ℕ
@@ -59,7 +59,7 @@ tail_for ts b = if holds_globals b.use_of then position (fits b.size) ts else No
 abbrev pub spot_at : (base : ℕ) → RamBlock → PlacedBlock
 spot_at base b = record { use_of = b.use_of; spot = record { base = base; size = b.size } }
 
--- a block behind those that were placed so before it
+-- a block behind those that were placed outside tails before it
 abbrev pub with_block_behind : (ram : ℕ) → Ram → RamBlock → Ram
 with_block_behind ram m b =
     record {

@@ -53,7 +53,7 @@ slot_uses p f l c = map (data_slot p f l c) (regions_used f.regions c) ++ map co
 abbrev pub free_slot : (number : ℕ) → Region
 free_slot n = record { rbar = 2 ^ 4 + n; rasr = 0 }
 
--- so many slots, from a number on, of which the last are free
+-- `count` slots, from a number on; those behind the uses are free
 abbrev pub slots_from : (number count : ℕ) → List SlotUse → List Region
 slots_from n zero us = []
 slots_from n (suc k) [] = free_slot n ∷ slots_from (suc n) k []

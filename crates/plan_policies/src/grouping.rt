@@ -22,7 +22,7 @@ pub struct Grouping<F: Fn(&FuncFacts) -> u32> {
 }
 
 impl<F: Fn(&FuncFacts) -> u32> Grouping<F> {
-    /// A grouping of so many functions by a callback that answers numbers below `count`.
+    /// A grouping of `functions` functions by a callback that answers numbers below `count`.
     pub fn new(callback: F, functions: u32, count: u32) -> Grouping<F>
         requires { IsGrouping functions count (F.pre callback) (FnReturnsAt F.Fn callback) }
         ensures callback { result.callback ≡ callback }

@@ -31,8 +31,8 @@ fn code_sizes(
     code_bytes(alloc, fin.groups.of.as_slice(), &all, fin.groups.count)
 }
 
-/// How many bytes the code of each compartment has, and the vectors, the monitor and its tables, on a board whose protection unit
-/// has so many slots.
+/// The bytes of each compartment's code, and of the vectors, the monitor and its tables, on a board whose protection unit has
+/// `slots` slots.
 ///
 /// # Errors
 ///

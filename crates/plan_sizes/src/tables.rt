@@ -1,4 +1,4 @@
-//! The bytes of the vectors, the monitor and its tables. None where a number takes more than 32 bits.
+//! The bytes of the vectors, the monitor and its tables. An answer is `None` if a number takes more than 32 bits.
 
 ghost use Rattle.std.specs.Prelude.{◌≡◌, ◌+◌, ◌*◌, ◌≤◌, length, IfSome};
 ghost use Rattle.ir_program.specs.Seen.{program_of};
