@@ -41,7 +41,7 @@ InstructionsInTable labels at (Half h ∷ more) = (h < 2 ^ 16) × InstructionsIn
 InstructionsInTable labels at (Word w ∷ more) = (w < 2 ^ 32) × InstructionsInTable labels (at + 4) more
 
 pub record ItemsStand : Type 0 where
-  -- they are, where the pieces are those of an assembly whose branches all reach their labels
+  -- the instructions of an assembly are in the table where all its branches reach their labels
   pub from_assembly : (a : Assembly) → IsAssembly a → ArePut a.places a.items → first_far a.places a.base a.items ≡ None → InstructionsInTable a.places a.base a.items
   -- pieces stand where flash holds their bytes
   pub from_bytes : (i : Image) (labels : List (Option ℕ)) (offset : ℕ) (items : List Item) → ObeysRules i → InstructionsInTable labels (i.flash_base + offset) items →

@@ -65,7 +65,7 @@ fn save_size(to: Option<usize>) -> u32
     }
 }
 
-/// So many bytes, and two for each argument of a call.
+/// The sum of some bytes and of two for each argument of a call.
 fn with_args(bytes: u32, args: &[usize]) -> Option<u32>
     ensures { IfSome result (λ n. n ≡ bytes + 2 * length args.now) }
 {

@@ -33,7 +33,7 @@ pub fn frames()
     ensures own { FramesAreOwn }
 {}
 
-/// A local that is not lendable is reached in its own running frame alone, and one that is has a number.
+/// A local that is not lendable is reached in its own running frame alone, and one that is lendable has a number.
 pub fn locals()
     ensures own { OtherLocalsAreLendable }
     ensures numbered { LendableLocalsHaveNumbers }

@@ -28,7 +28,7 @@ impl Model for Rows {
 }
 
 impl Rows {
-    /// So many empty lists.
+    /// `count` empty lists.
     ///
     /// # Errors
     ///

@@ -1,5 +1,5 @@
 -- Beyond the program's claim: only laws, proofs and functions inside the tool cite this file.
--- When pairs are a solution of a system of constraints, and how many steps it may take to find it.
+-- Pairs that are a solution of a system of constraints, and the number of steps that it may take to find them.
 use Rattle.std.specs.Prelude.{◌≡◌, ◌≢◌, ℕ, zero, suc, ◌+◌, ◌*◌, ◌≤◌, ◌⊎◌, Bool, true, [], length, get_or, Some, nat_eq, Contains}
 use Rattle.std.specs.List.{IsDistinct}
 use Rattle.ir_program.specs.Seen.{program_of}

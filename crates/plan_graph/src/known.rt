@@ -89,7 +89,7 @@ pub(crate) fn known_of(
     })
 }
 
-/// So many bytes, as often as there are compartments.
+/// The bytes of a size, once for each compartment.
 fn bytes(size: u64, compartments: usize) -> Option<u64>
     ensures { IfSome result (λ bytes. bytes ≡ size * compartments) }
 {

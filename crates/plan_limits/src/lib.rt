@@ -1,4 +1,4 @@
-//! The limits of what is compiled, tested.
+//! The test of the limits of what is compiled.
 #![tactic(auto)]
 
 ghost use Rattle.std.specs.Prelude.{◌≡◌, ◌-◌, ◌^◌, length, min, option_map};

@@ -15,7 +15,7 @@ use Rattle.plan_model.specs.Blocks.{block_size_for}
 abbrev powers : (a n : ℕ) → List ℕ
 powers a n = map (λ k. 2 ^ k) (range_with_len a n)
 
--- where the first power that passes is 2 ^ m
+-- the first power that passes, where it is 2 ^ m
 find_first : (test : ℕ → Bool) (a n m : ℕ) → a ≤ m → m < a + n → test (2 ^ m) ≡ true → ((i : ℕ) → a ≤ i → i < m → test (2 ^ i) ≡ false)
     → find test (powers a n) ≡ Some (2 ^ m)
 find_first test a zero m l h p f = absurd (omega arith)
@@ -85,7 +85,7 @@ block_found n = go (found (nat_le n) 5 28 (lit< tt))
     go (inl h) = inl (h.0, leb-true n (unwrap_or (find (nat_le n) powers_of_two) (2 ^ 32)) h.1)
     go (inr e) = inr e
 
--- where it is below 2 ^ 32
+-- a block that is smaller than 2 ^ 32 bytes
 pub small_block : (n : ℕ) → block_size_for n < 2 ^ 32 → IsPowerBetween 5 32 (block_size_for n) × (n ≤ block_size_for n)
 small_block n small = by (block_found n)
   where
@@ -93,7 +93,7 @@ small_block n small = by (block_found n)
     by (inl h) = h
     by (inr e) = absurd (omega (arith, small, e))
 
--- and of at most 2 ^ 32 bytes
+-- the block for at most 2 ^ 32 bytes
 pub block_holds : (n : ℕ) → n ≤ 2 ^ 32 → n ≤ block_size_for n
 block_holds n few = by (block_found n)
   where

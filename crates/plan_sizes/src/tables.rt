@@ -33,7 +33,7 @@ fn initial_words(program: &Program, fin: &Final) -> Option<u32>
     Some(total)
 }
 
-/// So many bytes behind others, as many times as a count tells.
+/// The sum of some bytes and of `count` times `each` bytes.
 fn behind(bytes: u32, each: u32, count: usize) -> Option<u32>
     ensures { IfSome result (λ n. n ≡ bytes + each * count) }
 {
