@@ -22,7 +22,7 @@ sub_code w = sub_by (nat_le w 127) w
 abbrev pub add_code : (words : ℕ) → List Instr
 add_code w = add_by (nat_le w 127) w
 
--- STR of a register t(k) into each of `count` words k, from the first on
+-- STR of a register t(k) into each word k of `count` words, from word `from` on
 abbrev pub stores_code : (t : ℕ → ℕ) → (count from : ℕ) → List Instr
 stores_code t zero k = []
 stores_code t (suc n) k = store_home (t k) k ∷ stores_code t n (suc k)

@@ -89,7 +89,7 @@ pub(crate) fn known_of(
     })
 }
 
-/// The bytes of a size, once for each compartment.
+/// A size in bytes, times the number of compartments.
 fn bytes(size: u64, compartments: usize) -> Option<u64>
     ensures { IfSome result (λ bytes. bytes ≡ size * compartments) }
 {

@@ -132,6 +132,6 @@ ram_needed p f b = (ram_of p f b).used
 abbrev pub region_sizes : Program → List DataRegion → List ℕ
 region_sizes p rs = map (λ (r : DataRegion). block_size_for (region_bytes p r.globals)) rs
 
--- the compartment that a refusal names: of the data region with the largest block, or the first of several, the lowest user, if it has one
+-- the compartment that a refusal names, if there is one: the lowest user of that data region whose block is largest, of several the first
 abbrev pub ram_named : Program → Final → Option ℕ
 ram_named p f = option_and_then (λ r. first_of (users (region_at f.regions r))) (first_greatest (region_sizes p f.regions))
