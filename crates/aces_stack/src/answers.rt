@@ -15,7 +15,7 @@ use ir_model::checked::Checked;
 use need_laws::least_sets;
 use plan::PlanningRefusal;
 use plan_firmwares::{Analysis, analyse};
-use plan_limits::passed;
+use plan_limits::passed_limit;
 use plan_model::Policy;
 use plan_model::plan::Board;
 use refine_stack::answer::StackAnswer;
@@ -66,7 +66,7 @@ pub fn stack_of(
     ensures refused { IfErr result (IsLimited policy (firmware_of firmware.now) board.now) }
 {
     let analysis = analyse(alloc, firmware, policy, board.closed)?;
-    if let Some((which, count)) = passed(&analysis.needs, &analysis.groups) {
+    if let Some((which, count)) = passed_limit(&analysis.needs, &analysis.groups) {
         return Err(PlanningRefusal::Limit { which, count });
     }
     let answer = within(alloc, firmware, &analysis, board, policy)?;

@@ -107,7 +107,7 @@ module _ (j : PermissionTest) (i : Image) (p : Point) (o n : ℕ) where
       landed j i 0 _ p.context [] (a ∷ b ∷ c ∷ rest) p.sp p.lr at (at + 0) f p.ram p.queues [] (omega arith) (holds_nothing (a ∷ b ∷ c ∷ rest) (omega arith)) (stay j i))
   kept_by labels at (Some k) v room below code = save_by j i p o n at k v room below code.0
 
-  -- where what is kept begins, written in another way
+  -- the beginning of what is kept, written in another way
   kept_at : (labels : List (Option ℕ)) (at from end : ℕ) (to : Option ℕ) (v : ℕ) → at ≡ from → from + save_size to ≡ end → HasFrame j i p o n → IsBelow n to → ItemsAt j i p.context.protection labels at (plain (save_code to)) →
       Leads j i (keep_steps to) (record p { registers = known (v ∷ []); pc = from }) (record p { registers = []; pc = end; ram = kept_in o to v p.ram }) []
   kept_at labels at from end to v e d room below code =

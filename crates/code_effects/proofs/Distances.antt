@@ -6,7 +6,7 @@ use Rattle.base_words.specs.Arithmetic.{moved}
 use Rattle.base_words.proofs.Arithmetic.{moved_is}
 use Rattle.machine_thumb_asm.specs.Finished.{distance}
 
--- forward over so many bytes
+-- forward over k bytes
 pub skips : (pc k to : ℕ) → pc < 2 ^ 31 → k < 2 ^ 30 → pc + k ≡ to → moved pc (pos k) ≡ to
 skips pc k to h l e = let f : FitsSigned w32 (pos k) = record { sfits = omega arith } in moved_is pc to (pos k) (omega arith) f (omega (arith, ints))
 

@@ -1,4 +1,4 @@
--- Where flash holds the bytes of pieces, they stand there.
+-- Pieces stand where flash holds their bytes.
 use Rattle.std.proofs.Common.{◌≡◌, ℕ, ◌+◌, ◌/◌, ◌%◌, ◌^◌, ◌<◌, List, [], ◌∷◌, ◌++◌, length, Option, get_or, refl, sym, ◌∙◌, arith, subst, length-append}
 use Rattle.std.proofs.lemmas.List.{get_or-append-add, append-nil}
 use Rattle.base_words.specs.Bytes.{read}

@@ -25,7 +25,7 @@ module _ (j : PermissionTest) (i : Image) where
   pub counted : (k m : ℕ) {s : State} {q : Point} {es : List Event} → k ≡ m → Arrives j i k s q es → Arrives j i m s q es
   counted k m e h = rw e at h
 
-  -- where the program counter alone is written in another way
+  -- a run of which the program counter alone is written in another way
   pub landed : (k : ℕ) (s : State) (x : Context) (known : List (Option ℕ)) (low : List ℕ) (sp lr pc to : ℕ) (f : Flags) (ram : List ℕ) (queues : List (List ℕ)) (es : List Event) → pc ≡ to → AreAsKnown known low →
       Runs j i k s (works x low sp lr pc f ram queues) es → Arrives j i k s (record { context = x; registers = known; sp = sp; lr = lr; pc = to; ram = ram; queues = queues }) es
   landed k s x known low sp lr pc to f ram queues es e h g = arrives_at k s x known low sp sp lr lr pc to f ram queues es refl refl e h g

@@ -44,7 +44,7 @@ module _ (j : PermissionTest) (i : Image) (g : NumberedFunc) (q : Places) (label
         Leads j i 3 p (record (behind o p site (Load to from t) to (cut (width_of t) u)) { queues = set p.queues w us }) (input_event i p.ram w at (width_of t) u ∷ [])
     pub nothing : (to from w at : ℕ) (t : PlainType) → HasFrame j i p o n → from < n → HasInst j i g q labels p p.pc site (Load to from t) →
         Reach j i p Read (width_of t) (home o p from) (InWindow w at) → get_or p.queues w [] ≡ [] → Finishes j i 2 p InputEnd []
-    -- up to the access itself, where a handler makes it, and from there on, v being what it loaded
+    -- up to the access itself, where a handler makes it, and from there on, where v is what it loaded
     pub before : (to from : ℕ) (t : PlainType) → HasFrame j i p o n → from < n → HasInst j i g q labels p p.pc site (Load to from t) →
         Leads j i 1 p (record p { registers = None ∷ Some (home o p from) ∷ []; pc = p.pc + 2 }) []
     pub access : (to from at : ℕ) (t : PlainType) → HasInst j i g q labels p at site (Load to from t) → Stands j i p.context.protection (at + 2) (load_at t)

@@ -56,7 +56,7 @@ module _ (j : PermissionTest) (i : Image) (g : NumberedFunc) (q : Places) (label
         Leads j i (length args + 2) p (record p { context = with_r12 p.context (home o p h); registers = known (homes o p args); pc = p.pc + (4 + 2 * length args) }) []
     pub icall_stands : (at s : ℕ) (to : Option ℕ) (h : ℕ) (args : List ℕ) → HasInst j i g q labels p at (Some s) (ICall to h args) → HasCrossing j i p (at + (4 + 2 * length args)) s
 
-  -- from the return on, v being in r0
+  -- from the return on, where r0 holds v
   pub record ReturnedEffects : Type 0 where
     pub call : (at : ℕ) (site to : Option ℕ) (f v : ℕ) (args : List ℕ) → HasFrame j i p o n → IsBelow n to → HasInst j i g q labels p at site (Call to f args) →
         Leads j i (keep_steps to) (record p { registers = known (v ∷ []); pc = at + call_size (is_some site) args })

@@ -13,7 +13,7 @@ use Rattle.code_model.specs.CompartmentCode.{CodeGroups, CodePlaces, compartment
 use Rattle.code_effects.specs.Items.{ItemsAt}
 
 pub record CompartmentsStand : Type 0 where
-  -- where the code of a function's compartment stands, the function stands at its entry
+  -- a function stands at its entry where the code of its compartment stands
   pub functions : (j : PermissionTest) (i : Image) (x : ProtectionState) (p : Program) (groups : CodeGroups) (places : CodePlaces) (f : ℕ) → f < length groups.compartments →
       ItemsAt j i x (compartment_labels p groups places (compartment_of p groups f)) (get_or places.bases (compartment_of p groups f) 0) (compartment_items p groups places (compartment_of p groups f)) →
       ItemsAt j i x (compartment_labels p groups places (compartment_of p groups f)) (entry_of p groups places f)

@@ -22,7 +22,7 @@ module _ (j : PermissionTest) (i : Image) (p : ProtectionState) (g : NumberedFun
         ItemsAt j i p labels (at + place_offset g q.sites (lent g q) b k) (here_items g q first (at + place_offset g q.sites (lent g q) b k) b k (here_of g b k))
 
 pub record FunctionsStand : Type 0 where
-  -- where a function stands, so does the code of each of its places
+  -- the code of each place of a function stands where the function stands
   pub stand : (j : PermissionTest) (i : Image) (p : ProtectionState) (g : NumberedFunc) (q : Places) (labels : List (Option ℕ)) (first at : ℕ) →
       ItemsAt j i p labels at (function_items g q first at) → PlacesStand j i p g q labels first at
   -- the first block stands behind the entry, and the next place behind an instruction

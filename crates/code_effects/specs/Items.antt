@@ -16,7 +16,7 @@ use Rattle.machine_model.specs.Code.{size, HoldsHalf, Lies, Stands, CodeAt}
 use Rattle.machine_model.specs.CodeBytes.{HoldsBytes}
 use Rattle.code_model.specs.Words.{plain}
 
--- flash holds them, each branch being one to its label
+-- flash holds them, and each branch is one to its label
 abbrev pub ItemsIn : Image → (labels : List (Option ℕ)) → (at : ℕ) → List Item → Type 0
 ItemsIn i labels at [] = Unit {0}
 ItemsIn i labels at (Plain x ∷ more) = Lies i at x × ItemsIn i labels (at + size x) more
@@ -41,9 +41,9 @@ InstructionsInTable labels at (Half h ∷ more) = (h < 2 ^ 16) × InstructionsIn
 InstructionsInTable labels at (Word w ∷ more) = (w < 2 ^ 32) × InstructionsInTable labels (at + 4) more
 
 pub record ItemsStand : Type 0 where
-  -- they are, where the pieces are those of an assembly whose branches all reach their labels
+  -- the instructions of an assembly are in the table where all its branches reach their labels
   pub from_assembly : (a : Assembly) → IsAssembly a → ArePut a.places a.items → first_far a.places a.base a.items ≡ None → InstructionsInTable a.places a.base a.items
-  -- where flash holds the bytes of pieces, they stand there
+  -- pieces stand where flash holds their bytes
   pub from_bytes : (i : Image) (labels : List (Option ℕ)) (offset : ℕ) (items : List Item) → ObeysRules i → InstructionsInTable labels (i.flash_base + offset) items →
       HoldsBytes i offset (bytes_from labels (i.flash_base + offset) items) → ItemsIn i labels (i.flash_base + offset) items
   -- and they may run where each of their bytes may be fetched

@@ -39,7 +39,7 @@ with_r12 x v = record x { high = set x.high 4 v }
 abbrev pub state_at : Point → (low : List ℕ) → Flags → State
 state_at p low f = works p.context low p.sp p.lr p.pc f p.ram p.queues
 
--- so many steps lead from this state to that point
+-- `count` steps lead from this state to that point
 pub record Arrives (j : PermissionTest) (i : Image) (count : ℕ) (s : State) (q : Point) (es : List Event) : Type 0 where
   pub low : List ℕ
   pub flags : Flags
@@ -50,7 +50,7 @@ pub record Arrives (j : PermissionTest) (i : Image) (count : ℕ) (s : State) (q
 pub record Leads (j : PermissionTest) (i : Image) (count : ℕ) (p q : Point) (es : List Event) : Type 0 where
   pub arrives : (low : List ℕ) (f : Flags) → AreAsKnown p.registers low → Arrives j i count (state_at p low f) q es
 
--- so many steps lead from this state to this end
+-- `count` steps lead from this state to this end
 pub record Reaches (j : PermissionTest) (i : Image) (count : ℕ) (s : State) (e : End) (es : List Event) : Type 0 where
   pub last : State
   pub over : last.ending ≡ Some e

@@ -27,17 +27,17 @@ pub fn runs()
     machine_model::running::shapes();
 }
 
-/// Pieces of an assembly stand where flash has their bytes, and so do their parts.
+/// Pieces of an assembly, and each part of them, stand where flash has their bytes.
 pub fn items()
     ensures { ItemsStand }
 {}
 
-/// Where a function's code stands, the code of each of its places does, one behind the other.
+/// The code of each place of a function, one behind the other, stands where the function's code stands.
 pub fn functions()
     ensures { FunctionsStand }
 {}
 
-/// Where a compartment's code stands, each of its functions does, at its entry; and labels lead to the blocks.
+/// Each function of a compartment stands at its entry where the compartment's code stands, and labels lead to the blocks.
 pub fn compartments()
     ensures { CompartmentsStand }
 {

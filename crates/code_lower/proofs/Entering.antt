@@ -21,7 +21,7 @@ stores_next t w k l =
 abbrev pub loan_code : Lend → List Instr
 loan_code d = home_address 0 d.home ∷ byte_into 1 d.number ∷ svc 2 ∷ []
 
--- all are alike, so the last is as the first
+-- the code of one more loan is the same behind the others as before them
 unlends_turn : (ds : List Lend) → unlend_code ds ++ svc 3 ∷ [] ≡ svc 3 ∷ unlend_code ds
 unlends_turn [] = refl
 unlends_turn (d ∷ ds) = ap (λ xs. xs ++ svc 3 ∷ []) (unlends_turn ds)

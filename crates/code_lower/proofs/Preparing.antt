@@ -42,7 +42,7 @@ lends_split : (s : ℕ) (ss : List ℕ) (n : Option ℕ) (ns : List (Option ℕ)
 lends_split s ss None ns = refl
 lends_split s ss (Some k) ns = refl
 
--- of locals and their numbers, the next is lent, or it is not
+-- the next of some locals with their numbers is lent, or it is not
 pub lends_step : (ss : List ℕ) (ns : List (Option ℕ)) (i d : ℕ) (e : Option ℕ) → i < length ss → i < length ns →
     lends_among (drop i ss) (drop i ns) ≡ lends_among (get_or ss i d ∷ []) (get_or ns i e ∷ []) ++ lends_among (drop (i + 1) ss) (drop (i + 1) ns)
 lends_step ss ns i d e l m =

@@ -23,7 +23,7 @@ room_first a xs ys h = let e = total-append xs ys in let b = h.below in record {
 pub room_rest : (a : Assembly) (xs ys : List Item) → HasRoom a (xs ++ ys) → HasRoom (with_more a xs) ys
 room_rest a xs ys h = let e = total-append xs ys in let f = here_more a xs in let b = h.below in record { below = omega arith }
 
--- of code in two parts, the first is put, and then the other
+-- the first of two parts of code is put, and then the other
 module _ (a : Assembly) (zs xs ys : List Item) (parts : zs ≡ xs ++ ys) where
   pub first_fits : HasRoom a zs → HasRoom a xs
   first_fits h = room_first a xs ys (rw parts at h)
@@ -58,7 +58,7 @@ module _ (xs : List Instr) (i : ℕ) (d : Instr) (l : i < length xs) where
   pub next_rest : (a : Assembly) → HasRoom a (plain (drop i xs)) → HasRoom (with_more a (Plain (get_or xs i d) ∷ [])) (plain (drop (i + 1) xs))
   next_rest a h = room_rest a (Plain (get_or xs i d) ∷ []) (plain (drop (i + 1) xs)) (rw (drop_more xs i d l) at h)
 
--- of instructions, the first are put, and the others are left
+-- the first instructions are put, and the others are left
 module _ (code xs rest : List Instr) (parts : code ≡ xs ++ rest) (a : Assembly) where
   both_parts : plain code ≡ plain xs ++ plain rest
   both_parts = ap plain parts ∙ plain-append xs rest

@@ -24,7 +24,7 @@ lend_of l = record { home = l.home; number = l.number }
 abbrev pub IsSmallLend : Lent → Type 0
 IsSmallLend l = (l.home < 256) × (l.number < 32)
 
--- so many labels, numbered from this one on
+-- `count` labels, numbered from `first` on
 abbrev pub labels_from : (first count : ℕ) → List Label
 labels_from n k = map (λ (i : ℕ). record { number = i }) (range_with_len n k)
 

@@ -18,7 +18,7 @@ use std::alloc::AllocError;
 /// The most words that one instruction adds to the stack pointer or takes from it.
 const ONCE: usize = 127;
 
-/// ADD SP with `op` 0 or SUB SP with `op` 1 by so many words.
+/// ADD SP with `op` 0 or SUB SP with `op` 1 by a number of words.
 fn adjust(op: u8, words: usize) -> Instr
     requires which { op < 2 }
     requires few { words < 128 }
@@ -31,7 +31,7 @@ fn adjust(op: u8, words: usize) -> Instr
     }
 }
 
-/// SUB SP by so many words.
+/// SUB SP by a number of words.
 fn put_sub(asm: &mut Asm, words: usize) -> Result<(), AllocError>
     requires few { words < 255 }
     requires room { HasRoom asm.old (plain (sub_code words)) }
@@ -44,7 +44,7 @@ fn put_sub(asm: &mut Asm, words: usize) -> Result<(), AllocError>
     }
 }
 
-/// ADD SP by so many words.
+/// ADD SP by a number of words.
 fn put_add(asm: &mut Asm, words: usize) -> Result<(), AllocError>
     requires few { words < 255 }
     requires room { HasRoom asm.old (plain (add_code words)) }
@@ -82,7 +82,7 @@ fn put_clears(asm: &mut Asm, from: usize, words: usize) -> Result<(), AllocError
     Ok(())
 }
 
-/// The frame of a function with so many parameters and so many words below the return address.
+/// The frame of a function, by the number of its parameters and of its words below the return address.
 fn put_frame(asm: &mut Asm, params: usize, words: usize) -> Result<(), AllocError>
     requires few { words < 255 }
     requires params_few { params ≤ 4 }
@@ -120,7 +120,7 @@ fn put_lends(asm: &mut Asm, lent: &[Lent]) -> Result<(), AllocError>
     Ok(())
 }
 
-/// The entry of a function with so many parameters, so many words below the return address, and these locals that are lent.
+/// The entry of a function, by the number of its parameters, the number of words below its return address, and its lent locals.
 pub(crate) fn put_enter(
     asm: &mut Asm,
     params: usize,
@@ -138,7 +138,7 @@ pub(crate) fn put_enter(
     put_lends(asm, lent)
 }
 
-/// Takes so many loans back.
+/// Takes a loan back for each lent local.
 fn put_unlends(asm: &mut Asm, lent: &[Lent]) -> Result<(), AllocError>
     requires { HasRoom asm.old (plain (unlend_code (map lend_of lent.now))) }
     ensures { OnOk result (asm.new ≡ with_more asm.old (plain (unlend_code (map lend_of lent.now)))) }
@@ -161,7 +161,7 @@ fn put_outcome(asm: &mut Asm, outcome: Option<usize>) -> Result<(), AllocError>
     }
 }
 
-/// The return of a function with so many words below the return address and these locals that are lent.
+/// The return of a function, by the number of words below its return address and its lent locals.
 pub(crate) fn put_leave(
     asm: &mut Asm,
     words: usize,

@@ -98,7 +98,7 @@ fn lent_among(
     Ok(lent)
 }
 
-/// So many new labels, one behind the other.
+/// `count` new labels, one behind the other.
 fn new_labels(alloc: Global, asm: &mut Asm, count: usize) -> Result<Vec<Label>, AllocError>
     ensures labels { IfOk result (λ labels. labels.items ≡ labels_from (length asm.old.places) count) }
     ensures asm { OnOk result (asm.new ≡ record asm.old { places = asm.old.places ++ replicate count None }) }

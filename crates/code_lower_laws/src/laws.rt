@@ -19,12 +19,12 @@ pub fn compartments()
 }
 
 /// Code is made for each function of a typed firmware within the limits, and its jumps go to its own blocks.
-pub fn typed()
+pub fn typed_functions()
     ensures fit { TypedFunctionsFit }
     ensures inside { TypedJumpsInside }
 {
     ir_laws::typing::places();
     ir_laws::limits::counts();
     code_model::laws::frames();
-    code_model::frame_laws::checked();
+    code_model::frame_laws::checked_frames_fit();
 }

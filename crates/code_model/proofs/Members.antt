@@ -1,4 +1,4 @@
--- The functions of a compartment among the first so many, one more.
+-- The functions of a compartment among the first ones, with one function more.
 use Rattle.std.proofs.Common.{◌≡◌, ℕ, zero, suc, ◌+◌, ◌<◌, Bool, true, false, List, [], ◌∷◌, ◌++◌, cond, length, take, get_or, nat_eq, refl, ap, ◌∙◌, add-one, arith}
 use Rattle.std.proofs.lemmas.List.{append-nil}
 use Rattle.code_model.specs.CompartmentCode.{members_from}

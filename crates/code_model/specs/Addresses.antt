@@ -24,7 +24,7 @@ addr_code s q to of = named_into s q of ++ save to ∷ []
 abbrev pub faddr_code : Places → (to func : ℕ) → List Instr
 faddr_code q to f = word_into 0 (entry_address q f + 1) ++ save to ∷ []
 
--- no object is larger than the limit, so no pointer to a larger element is ever other than null
+-- the size by which an index is multiplied. No object is larger than the limit, so a pointer to a larger element is always null
 abbrev pub scale_of : (size : ℕ) → ℕ
 scale_of n = if nat_le n object_limit then n else 0
 

@@ -29,7 +29,7 @@ pub record CodePlaces : Type 0 where
   pub globals : List ℕ
   pub windows : List ℕ
 
--- those of so many functions, numbered from this one on, that stand in a compartment
+-- those functions that stand in a compartment, by the compartments of all from this one on
 abbrev pub members_from : (func : ℕ) → (compartments : List ℕ) → (compartment : ℕ) → List ℕ
 members_from f [] c = []
 members_from f (d ∷ ds) c = if nat_eq d c then f ∷ members_from (suc f) ds c else members_from (suc f) ds c
@@ -68,7 +68,7 @@ module _ (p : Program) (groups : CodeGroups) where
   abbrev pub compartment_size : (compartment : ℕ) → ℕ
   compartment_size c = total_size (members c)
 
-  -- of each of so many compartments
+  -- the size of the code of each compartment
   abbrev pub code_sizes : (compartments : ℕ) → List ℕ
   code_sizes n = map compartment_size (range_with_len 0 n)
 

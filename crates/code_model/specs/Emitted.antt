@@ -35,6 +35,6 @@ with_block a l xs = record a { items = a.items ++ xs; places = set a.places l (S
 abbrev pub with_function : Assembly → NumberedFunc → Places → Assembly
 with_function a g q = record a { items = a.items ++ function_items g q (length a.places) (here a); places = a.places ++ function_labels g q (here a) }
 
--- how many bytes a function has whose code has these places
+-- the bytes of a function whose code has these places
 abbrev pub size_in : Places → NumberedFunc → ℕ
 size_in q g = function_size g q.sites (lent g q)

@@ -7,7 +7,7 @@ use Rattle.machine_thumb.specs.Table.{svc}
 use Rattle.code_model.specs.Places.{Lend}
 use Rattle.code_model.specs.Words.{load_home, store_home, byte_into, home_address}
 
--- SUB SP and ADD SP by so many words: one instruction reaches 127 words, and two the largest frame
+-- SUB SP and ADD SP by a number of words: one instruction reaches 127 words, and two the largest frame
 abbrev pub sub_by : (once : Bool) → (words : ℕ) → List Instr
 sub_by true w = AdjustStack 1 w ∷ []
 sub_by false w = AdjustStack 1 127 ∷ AdjustStack 1 (w - 127) ∷ []
@@ -22,7 +22,7 @@ sub_code w = sub_by (nat_le w 127) w
 abbrev pub add_code : (words : ℕ) → List Instr
 add_code w = add_by (nat_le w 127) w
 
--- STR of a register t(k) into each of so many words k, from this one on
+-- STR of a register t(k) into each word k of `count` words, from word `from` on
 abbrev pub stores_code : (t : ℕ → ℕ) → (count from : ℕ) → List Instr
 stores_code t zero k = []
 stores_code t (suc n) k = store_home (t k) k ∷ stores_code t n (suc k)

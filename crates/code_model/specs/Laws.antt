@@ -29,7 +29,7 @@ pub record FramesAgree : Type 0 where
   pub size : (s : Scope) (f : PlainFunc) → frame_size (resolved_func s f) ≡ frames.frame_size s.known f
   pub starts : (s : Scope) (f : PlainFunc) → local_starts (resolved_func s f) ≡ named.local_offsets s.known f
 
--- pieces have the sizes that are told without addresses, and so has a function
+-- pieces and functions have the sizes that are told without addresses
 pub record SizesHold : Type 0 where
   pub insts : (g : NumberedFunc) (q : Places) (at : ℕ) (s : Option ℕ) (i : NumberedInst) → total (inst_items g q at s i) ≡ inst_size (is_some s) i
   pub terms : (g : NumberedFunc) (q : Places) (first : ℕ) (t : NumberedTerm) → total (term_items g q first t) ≡ term_size g (lent g q) t
@@ -40,7 +40,7 @@ pub record SizesAreEven : Type 0 where
   pub functions : (g : NumberedFunc) (sites : List CallSite) (n : ℕ) → function_size g sites n % 2 ≡ 0
   pub places : (g : NumberedFunc) (sites : List CallSite) (n b k : ℕ) → place_offset g sites n b k % 2 ≡ 0
 
--- pieces that stand among others, so many bytes behind the first
+-- a piece that stands among others, `offset` bytes behind the first
 pub record StandsAt (whole : List Item) (offset : ℕ) (piece : List Item) : Type 0 where
   pub front : List Item
   pub rest : List Item

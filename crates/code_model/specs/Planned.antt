@@ -35,7 +35,7 @@ module _ (p : Program) (n : Needs) where
         lends = map (lend_numbers_in p n g) (numbers_below (length p.funcs));
       }
 
-  -- bytes of code of each compartment, and of the tables of a board with so many slots
+  -- bytes of code of each compartment, and of the tables of a board with `slots` slots
   abbrev pub sizes_of : Final → (slots : ℕ) → Sizes
   sizes_of f slots = record { code = code_sizes p (code_groups f.groups) f.groups.count; tables = table_bytes p n f slots }
 

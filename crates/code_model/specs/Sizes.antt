@@ -57,7 +57,7 @@ resume_size x (Does (ir.Call to f args)) = call_size x args
 resume_size x (Does (ir.ICall to h args)) = icall_size x args
 resume_size x _ = 0
 
--- SUB SP or ADD SP by so many words
+-- SUB SP or ADD SP by a number of words
 abbrev pub adjust_size : (words : ℕ) → ℕ
 adjust_size w = if nat_le w 127 then 2 else 4
 

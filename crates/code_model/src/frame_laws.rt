@@ -33,6 +33,6 @@ pub fn parts()
 {}
 
 /// In a firmware that passes its checks each function has a frame of at most 992 bytes.
-pub fn checked()
+pub fn checked_frames_fit()
     ensures { (w : PlainFirmware) (f : PlainFunc) → IsTyped w → Contains (funcs_of w) f → frame_size (known w.structs) f ≤ frame_limit }
 {}

@@ -6,6 +6,6 @@ use Rattle.code_model.specs.declared.places.CallSite.{CallSite}
 use Rattle.code_model.specs.Sizes.{place_offset}
 use Rattle.code_offsets.specs.declared.walk.Reached.{Reached}
 
--- the place that was reached stands so far behind the function's entry
+-- the offset is the distance of the place that was reached from the function's entry
 pub record IsReached (g : NumberedFunc) (sites : List CallSite) (lent : ℕ) (r : Reached) : Type 0 where
   pub offset : r.offset ≡ place_offset g sites lent r.block r.place

@@ -10,7 +10,7 @@ use crate::routines::routine_at;
 use ir_model::rounding::rounded_up;
 use ir_program::program::{Program, Routine, Storage};
 
-/// The bytes of a local, rounded up to whole words; none where they pass 32 bits.
+/// The bytes of a local, rounded up to whole words; `None` if they pass 32 bits.
 pub fn local_size(local: &Storage) -> Option<u32>
     ensures value { IfSome result (λ n. n ≡ frames.local_size (shape_of [] local.now)) }
     ensures none { IfNone result (2 ^ 32 ≤ frames.local_size (shape_of [] local.now)) }
@@ -18,7 +18,7 @@ pub fn local_size(local: &Storage) -> Option<u32>
     rounded_up(local.size, 4)
 }
 
-/// The bytes of locals, each of whole words; none where they pass 32 bits.
+/// The bytes of locals, each of whole words; `None` if they pass 32 bits.
 fn locals_size(locals: &[Storage]) -> Option<u32>
     ensures value { IfSome result (λ n. n ≡ frames.locals_size (map (shape_of []) locals.now)) }
     ensures none { IfNone result (2 ^ 32 ≤ frames.locals_size (map (shape_of []) locals.now)) }
@@ -30,7 +30,7 @@ fn locals_size(locals: &[Storage]) -> Option<u32>
     Some(total)
 }
 
-/// The bytes of a function's frame; none where they pass 32 bits.
+/// The bytes of a function's frame; `None` if they pass 32 bits.
 fn routine_frame(routine: &Routine) -> Option<u32>
     ensures value { IfSome result (λ n. n ≡ frames.frame_size (routine_of [] routine.now)) }
     ensures none { IfNone result (2 ^ 32 ≤ frames.frame_size (routine_of [] routine.now)) }
@@ -43,7 +43,7 @@ fn routine_frame(routine: &Routine) -> Option<u32>
     rounded_up(filled.checked_add(4)?, 8)
 }
 
-/// The words of a function's frame that lie below the return address; none where the bytes of the frame pass 32 bits.
+/// The words of a function's frame that lie below the return address; `None` if the bytes of the frame pass 32 bits.
 pub fn frame_words(routine: &Routine) -> Option<u32>
     ensures value { IfSome result (λ n. n ≡ (frames.frame_shape (routine_of [] routine.now)).words) }
     ensures none { IfNone result (2 ^ 32 ≤ frames.frame_size (routine_of [] routine.now)) }
@@ -52,7 +52,7 @@ pub fn frame_words(routine: &Routine) -> Option<u32>
     Some(size.saturating_sub(4) / 4)
 }
 
-/// The bytes of the frame of the function of a number; none where there is no such function, or they pass 32 bits.
+/// The bytes of the frame of the function of a number; `None` if there is no such function, or they pass 32 bits.
 pub fn frame_size(program: &Program, func: usize) -> Option<u32>
     ensures value { IfSome result (λ n. n ≡ frames.frame_size (func_at (program_of program.now) func)) }
     ensures none { IfNone result ((length program.now.funcs ≤ func) ⊎ (2 ^ 32 ≤ frames.frame_size (func_at (program_of program.now) func))) }

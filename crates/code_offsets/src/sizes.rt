@@ -1,4 +1,4 @@
-//! The sizes of what stands in a function. None where a number takes more than 32 bits.
+//! The sizes of what stands in a function. An answer is `None` if a number takes more than 32 bits.
 
 ghost use Rattle.std.specs.Prelude.{◌≡◌, ◌+◌, ◌*◌, ◌<◌, ◌≤◌, ℕ, [], length, map, take, IfSome};
 ghost use Rattle.ir_model.specs.Resolved.{NumberedFunc, Does, func_at};
@@ -65,7 +65,7 @@ fn save_size(to: Option<usize>) -> u32
     }
 }
 
-/// So many bytes, and two for each argument of a call.
+/// The sum of some bytes and of two for each argument of a call.
 fn with_args(bytes: u32, args: &[usize]) -> Option<u32>
     ensures { IfSome result (λ n. n ≡ bytes + 2 * length args.now) }
 {
@@ -149,7 +149,7 @@ pub(crate) fn insts_size(
     Some(total)
 }
 
-/// The bytes of SUB SP or ADD SP by so many words.
+/// The bytes of SUB SP or ADD SP by a number of words.
 fn adjust_size(words: u32) -> u32
     ensures exact { result ≡ sizes.adjust_size words }
     ensures small { result ≤ 4 }
@@ -157,7 +157,7 @@ fn adjust_size(words: u32) -> u32
     if words <= 127 { 2 } else { 4 }
 }
 
-/// The bytes of a block's end, in a function of whose locals so many are lent.
+/// The bytes of a block's end, in a function of whose locals `lent` are lent.
 #[tactic(auto, unfolding(code_model::specs::Sizes::term_size))]
 pub(crate) fn exit_size(routine: &Routine, lent: u32, exit: Exit) -> Option<u32>
     ensures { IfSome result (λ n. n ≡ sizes.term_size (routine_of [] routine.now) lent (exit_of exit)) }
@@ -179,7 +179,7 @@ fn param_count(routine: &Routine) -> usize
     routine.source.params.len()
 }
 
-/// The bytes of an entry, in a function of whose locals so many are lent.
+/// The bytes of an entry, in a function of whose locals `lent` are lent.
 #[tactic(auto, unfolding(code_model::specs::Sizes::entry_size))]
 pub(crate) fn entry_size(routine: &Routine, lent: u32) -> Option<u32>
     ensures { IfSome result (λ n. n ≡ sizes.entry_size (routine_of [] routine.now) lent) }
@@ -220,15 +220,15 @@ fn size_with(routine: &Routine, sites: &[CallSite], lent: u32, blocks: &[Sequenc
     Some(total)
 }
 
-/// The bytes of a function whose calls that may go to another compartment are `sites`, and of whose locals so many are lent.
+/// The bytes of a function whose calls that may go to another compartment are `sites`, and of whose locals `lent` are lent.
 fn routine_size(routine: &Routine, sites: &[CallSite], lent: u32) -> Option<u32>
     ensures { IfSome result (λ n. n ≡ sizes.function_size (routine_of [] routine.now) sites.now lent) }
 {
     size_with(routine, sites, lent, routine.blocks.as_slice())
 }
 
-/// The bytes of the function of a number, whose calls that may go to another compartment are `sites`, and of whose locals so many
-/// are lent; none where there is no such function.
+/// The bytes of the function of a number, whose calls that may go to another compartment are `sites`, and of whose locals
+/// `lent` are lent; `None` if there is no such function.
 pub fn function_size(program: &Program, func: usize, sites: &[CallSite], lent: u32) -> Option<u32>
     ensures { IfSome result (λ n. (func < length program.now.funcs) × (n ≡ sizes.function_size (func_at (program_of program.now) func) sites.now lent)) }
 {

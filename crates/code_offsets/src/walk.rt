@@ -1,5 +1,5 @@
-//! Where the code of places stands in a function, found by a walk from one place to the next. None where a number takes more than
-//! 32 bits, or where no instruction stands at a place.
+//! The places of code in a function, found by a walk from one place to the next. An answer is `None` if a number takes more than
+//! 32 bits, or if no instruction stands at a place.
 
 ghost use Rattle.std.specs.Prelude.{◌≡◌, List, [], IfSome};
 ghost use Rattle.ir_program.specs.Seen.{routine_of};
@@ -130,7 +130,7 @@ fn start(
     }
 }
 
-/// Goes on to a place of a function whose calls that may go to another compartment are `sites`, and of whose locals so many are
+/// Goes on to a place of a function whose calls that may go to another compartment are `sites`, and of whose locals `lent` are
 /// lent. The walk begins at a place that was reached before, if one is given that does not stand behind, and else at the entry. So
 /// places in their order are all found in one walk.
 pub fn reach(

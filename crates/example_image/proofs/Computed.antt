@@ -6,7 +6,7 @@ use Rattle.machine_model.specs.Stack.{words_at}
 use Rattle.machine_protection.specs.RegionWords.{region_of}
 use Rattle.plan_model.specs.Lending.{lend_number}
 use Rattle.plan_model.specs.Covers.{least_power}
-use Rattle.plan_model.specs.Blocks.{block, region_bytes, offset_in_region, open_eighths, subregions_out}
+use Rattle.plan_model.specs.Blocks.{block_size_for, region_bytes, offset_in_region, open_eighths, subregions_out}
 use Rattle.plan_model.specs.Placement.{global_address}
 use Rattle.plan_model.specs.Slots.{slot_regions}
 use Rattle.plan_model.specs.TableSize.{table_bytes}
@@ -17,9 +17,9 @@ use Rattle.example_image.specs.LentTables.{ComputesLent}
 use Rattle.example_image.specs.LoopTables.{ComputesLoop}
 
 pub computes_lent : ComputesLent
-unfolding read write words_at region_of lend_number least_power block region_bytes offset_in_region open_eighths subregions_out global_address slot_regions table_bytes inst_size term_size entry_size first_words tables_of count_trailing_zeros
+unfolding read write words_at region_of lend_number least_power block_size_for region_bytes offset_in_region open_eighths subregions_out global_address slot_regions table_bytes inst_size term_size entry_size first_words tables_of count_trailing_zeros
 computes_lent = refl
 
 pub computes_loop : ComputesLoop
-unfolding read write words_at region_of lend_number least_power block region_bytes offset_in_region open_eighths subregions_out global_address slot_regions table_bytes inst_size term_size entry_size first_words tables_of count_trailing_zeros
+unfolding read write words_at region_of lend_number least_power block_size_for region_bytes offset_in_region open_eighths subregions_out global_address slot_regions table_bytes inst_size term_size entry_size first_words tables_of count_trailing_zeros
 computes_loop = refl

@@ -5,14 +5,14 @@ use Rattle.base_words.specs.Bytes.{read}
 use Rattle.machine_thumb.specs.Decoded.{arithmetic_of, special_of, transfer_of, stack_of, multiple_of, upper_of, narrow_of, move_of, special_register_of, divide_of, wide_of, decoded}
 use Rattle.machine_protection.specs.Regions.{holds}
 use Rattle.plan_model.specs.Covers.{least_power}
-use Rattle.plan_model.specs.Blocks.{block}
+use Rattle.plan_model.specs.Blocks.{block_size_for}
 use Rattle.monitor_model.specs.Layout.{initial_word_count, tables_size}
 use Rattle.monitor_model.specs.FromFlash.{tables_of}
 use Rattle.monitor_model.specs.Sound.{first_failure}
 use Rattle.example_monitor.specs.Audits.{ComputesAudits}
 
 pub computes_audits : ComputesAudits
-unfolding count_leading_zeros read arithmetic_of special_of transfer_of stack_of multiple_of upper_of narrow_of move_of special_register_of divide_of wide_of decoded holds initial_word_count block least_power tables_size tables_of first_failure
+unfolding count_leading_zeros read arithmetic_of special_of transfer_of stack_of multiple_of upper_of narrow_of move_of special_register_of divide_of wide_of decoded holds initial_word_count block_size_for least_power tables_size tables_of first_failure
 computes_audits = record {
   sound = refl;
   no_monitor = refl;

@@ -2,7 +2,7 @@
 use Rattle.std.proofs.Common.{refl}
 use lib.Count.{count_trailing_zeros, count_leading_zeros}
 use Rattle.plan_model.specs.Covers.{least_power}
-use Rattle.plan_model.specs.Blocks.{block}
+use Rattle.plan_model.specs.Blocks.{block_size_for}
 use Rattle.monitor_model.specs.Layout.{tables_size}
 use Rattle.base_words.specs.Arithmetic.{shift_left, shift_right, bit_clear}
 use Rattle.base_words.specs.Bytes.{read, write, write_all}
@@ -18,7 +18,7 @@ use Rattle.machine_model.specs.Stack.{words_at}
 use Rattle.example_monitor.specs.Handled.{ComputesCalls, ComputesLoans, ComputesHalts}
 
 pub computes_calls : ComputesCalls
-unfolding count_trailing_zeros count_leading_zeros tables_size block least_power shift_left shift_right bit_clear read write write_all holds permits deciding read_register write_register region_of location find_window by_mpu read_system read_status write_status verdict words_at
+unfolding count_trailing_zeros count_leading_zeros tables_size block_size_for least_power shift_left shift_right bit_clear read write write_all holds permits deciding read_register write_register region_of location find_window by_mpu read_system read_status write_status verdict words_at
 computes_calls = record {
   enters = refl;
   skips_the_number = refl;
@@ -26,7 +26,7 @@ computes_calls = record {
 }
 
 pub computes_loans : ComputesLoans
-unfolding count_trailing_zeros count_leading_zeros tables_size block least_power shift_left shift_right bit_clear read write write_all holds permits deciding read_register write_register region_of location find_window by_mpu read_system read_status write_status verdict words_at
+unfolding count_trailing_zeros count_leading_zeros tables_size block_size_for least_power shift_left shift_right bit_clear read write write_all holds permits deciding read_register write_register region_of location find_window by_mpu read_system read_status write_status verdict words_at
 computes_loans = record {
   lends = refl;
   unlends = refl;
@@ -36,7 +36,7 @@ computes_loans = record {
 }
 
 pub computes_halts : ComputesHalts
-unfolding count_trailing_zeros count_leading_zeros tables_size block least_power shift_left shift_right bit_clear read write write_all holds permits deciding read_register write_register region_of location find_window by_mpu read_system read_status write_status verdict words_at
+unfolding count_trailing_zeros count_leading_zeros tables_size block_size_for least_power shift_left shift_right bit_clear read write write_all holds permits deciding read_register write_register region_of location find_window by_mpu read_system read_status write_status verdict words_at
 computes_halts = record {
   ends = refl;
   number = refl;

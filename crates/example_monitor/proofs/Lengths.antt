@@ -2,13 +2,13 @@
 use Rattle.std.proofs.Common.{refl}
 use lib.Count.{count_trailing_zeros, count_leading_zeros}
 use Rattle.plan_model.specs.Covers.{least_power}
-use Rattle.plan_model.specs.Blocks.{block}
+use Rattle.plan_model.specs.Blocks.{block_size_for}
 use Rattle.monitor_model.specs.Layout.{tables_size}
 use Rattle.machine_protection.specs.RegionWords.{region_of}
 use Rattle.example_monitor.specs.Lengths.{ComputesLengths}
 
 pub computes_lengths : ComputesLengths
-unfolding count_trailing_zeros count_leading_zeros tables_size block least_power region_of
+unfolding count_trailing_zeros count_leading_zeros tables_size block_size_for least_power region_of
 computes_lengths = record {
   enter_four = record { bytes_are = refl; steps_are = refl };
   enter_twelve = record { bytes_are = refl; steps_are = refl };

@@ -6,13 +6,13 @@ use Rattle.machine_thumb.specs.Decoded.{arithmetic_of, special_of, transfer_of, 
 use Rattle.machine_protection.specs.RegionWords.{region_of}
 use Rattle.machine_model.specs.Stack.{words_at}
 use Rattle.plan_model.specs.Covers.{least_power}
-use Rattle.plan_model.specs.Blocks.{block}
+use Rattle.plan_model.specs.Blocks.{block_size_for}
 use Rattle.monitor_model.specs.Layout.{initial_word_count, tables_size}
 use Rattle.monitor_model.specs.FromFlash.{tables_of}
 use Rattle.example_monitor.specs.LentTables.{ComputesTables}
 
 pub computes_tables : ComputesTables
-unfolding count_leading_zeros count_trailing_zeros read arithmetic_of special_of transfer_of stack_of multiple_of upper_of narrow_of move_of special_register_of divide_of wide_of decoded region_of words_at initial_word_count block least_power tables_size tables_of
+unfolding count_leading_zeros count_trailing_zeros read arithmetic_of special_of transfer_of stack_of multiple_of upper_of narrow_of move_of special_register_of divide_of wide_of decoded region_of words_at initial_word_count block_size_for least_power tables_size tables_of
 computes_tables = record {
   words = refl;
   has_tables = record { from_base = omega arith; inside = omega arith; words_are = refl };

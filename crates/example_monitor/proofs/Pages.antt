@@ -2,7 +2,7 @@
 use Rattle.std.proofs.Common.{refl}
 use lib.Count.{count_trailing_zeros, count_leading_zeros}
 use Rattle.plan_model.specs.Covers.{least_power}
-use Rattle.plan_model.specs.Blocks.{block}
+use Rattle.plan_model.specs.Blocks.{block_size_for}
 use Rattle.monitor_model.specs.Layout.{tables_size}
 use Rattle.base_words.specs.Bytes.{read}
 use Rattle.machine_thumb.specs.Table.{encode}
@@ -13,7 +13,7 @@ use Rattle.monitor_program.specs.Page.{page}
 use Rattle.example_monitor.specs.Pages.{ComputesPage}
 
 pub computes_page : ComputesPage
-unfolding count_trailing_zeros count_leading_zeros tables_size block least_power read region_of encode decoded words_at page narrow_of arithmetic_of transfer_of special_of upper_of stack_of multiple_of wide_of move_of special_register_of divide_of
+unfolding count_trailing_zeros count_leading_zeros tables_size block_size_for least_power read region_of encode decoded words_at page narrow_of arithmetic_of transfer_of special_of upper_of stack_of multiple_of wide_of move_of special_register_of divide_of
 computes_page = record {
   size = refl;
   closed_size = refl;

@@ -2,7 +2,7 @@
 -- The tables of that firmware, computed.
 use Rattle.std.specs.Prelude.{◌≡◌, [], ◌∷◌, true, Some, None}
 use Rattle.monitor_model.specs.Records.{number_of_slots, last_with_entry, targets_of, site_at}
-use Rattle.plan_model.specs.Blocks.{block}
+use Rattle.plan_model.specs.Blocks.{block_size_for}
 use Rattle.monitor_model.specs.Layout.{compartments_at, sites_at, targets_at, lends_at, area_end, tables_size}
 use Rattle.monitor_model.specs.Regions.{background, regions_for}
 use Rattle.monitor_model.specs.Area.{area, HasTables}
@@ -22,9 +22,9 @@ pub record ComputesTables : Type 0 where
   pub lends : lends_at tables ≡ 0x080010D8
   pub ends : area_end tables ≡ 0x080010DC
   pub size : tables_size tables ≡ 8192
-  pub least_block : block 1 ≡ 32
-  pub exact_block : block 64 ≡ 64
-  pub next_block : block 65 ≡ 128
+  pub least_block : block_size_for 1 ≡ 32
+  pub exact_block : block_size_for 64 ≡ 64
+  pub next_block : block_size_for 65 ≡ 128
   -- a site's target by its entry; of two with one entry the last; none with another
   pub found : last_with_entry 0x080020A1 (targets_of tables (site_at tables 1)) ≡ Some (record { entry = 0x080020A1; compartment = 2 })
   pub last : last_with_entry 1 (record { entry = 1; compartment = 5 } ∷ record { entry = 1; compartment = 6 } ∷ []) ≡ Some (record { entry = 1; compartment = 6 })

@@ -3,7 +3,7 @@ use Rattle.std.proofs.Common.{refl, arith}
 use lib.Count.{count_trailing_zeros}
 use Rattle.machine_protection.specs.RegionWords.{region_of}
 use Rattle.plan_model.specs.Covers.{least_power}
-use Rattle.plan_model.specs.Blocks.{block, region_bytes, offset_in_region, open_eighths, subregions_out}
+use Rattle.plan_model.specs.Blocks.{block_size_for, region_bytes, offset_in_region, open_eighths, subregions_out}
 use Rattle.plan_model.specs.FlashPlacement.{flash_blocks, bytes_before}
 use Rattle.plan_model.specs.RamPlacement.{with_block, ram_of}
 use Rattle.plan_model.specs.RamBlocks.{ram_blocks}
@@ -17,7 +17,7 @@ use Rattle.example_plan.specs.Sums.{ComputesSums}
 use Rattle.example_plan.specs.Words.{ComputesWords}
 
 pub computes_plan : ComputesPlan
-unfolding table_bytes global_address offset_in_region region_bytes plan_of flash_blocks bytes_before least_power block ram_blocks with_block ram_of open_eighths subregions_out slot_regions region_of count_trailing_zeros
+unfolding table_bytes global_address offset_in_region region_bytes plan_of flash_blocks bytes_before least_power block_size_for ram_blocks with_block ram_of open_eighths subregions_out slot_regions region_of count_trailing_zeros
 computes_plan = record {
   tables = refl;
   blocks = refl;
@@ -35,15 +35,15 @@ computes_plan = record {
 }
 
 pub computes_other_policies : ComputesOtherPolicies
-unfolding flash_blocks least_power block
+unfolding flash_blocks least_power block_size_for
 computes_other_policies = record { optimized = refl; optimized_sites = refl; by_periph_sites = refl }
 
 pub computes_closed_plan : ComputesClosedPlan
-unfolding table_bytes region_bytes plan_of flash_blocks bytes_before least_power block ram_blocks with_block ram_of open_eighths subregions_out slot_regions region_of count_trailing_zeros
+unfolding table_bytes region_bytes plan_of flash_blocks bytes_before least_power block_size_for ram_blocks with_block ram_of open_eighths subregions_out slot_regions region_of count_trailing_zeros
 computes_closed_plan = record { tables = refl; blocks = refl; of_main = refl; of_control = refl }
 
 pub computes_tails : ComputesTails
-unfolding global_address region_bytes offset_in_region plan_of flash_blocks bytes_before least_power block ram_blocks with_block ram_of open_eighths subregions_out slot_regions region_of count_trailing_zeros
+unfolding global_address region_bytes offset_in_region plan_of flash_blocks bytes_before least_power block_size_for ram_blocks with_block ram_of open_eighths subregions_out slot_regions region_of count_trailing_zeros
 computes_tails = record {
   blocks = refl;
   tails = refl;
@@ -54,11 +54,11 @@ computes_tails = record {
 }
 
 pub computes_stack_first : ComputesStackFirst
-unfolding region_bytes plan_of flash_blocks bytes_before least_power block ram_blocks with_block ram_of open_eighths
+unfolding region_bytes plan_of flash_blocks bytes_before least_power block_size_for ram_blocks with_block ram_of open_eighths
 computes_stack_first = record { blocks = refl; tails = refl; needed = refl }
 
 pub computes_sums : ComputesSums
-unfolding table_bytes region_bytes flash_blocks bytes_before least_power block ram_blocks with_block ram_of open_eighths
+unfolding table_bytes region_bytes flash_blocks bytes_before least_power block_size_for ram_blocks with_block ram_of open_eighths
 computes_sums = record {
   too_much = refl;
   named = refl;
@@ -74,7 +74,7 @@ computes_sums = record {
 }
 
 pub computes_words : ComputesWords
-unfolding least_power block region_bytes offset_in_region open_eighths subregions_out region_of count_trailing_zeros
+unfolding least_power block_size_for region_bytes offset_in_region open_eighths subregions_out region_of count_trailing_zeros
 computes_words = record {
   blocks = refl;
   six_hundred = refl;

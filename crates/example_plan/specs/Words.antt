@@ -3,16 +3,16 @@
 use Rattle.std.specs.Prelude.{◌≡◌, ℕ, [], ◌∷◌, map}
 use Rattle.machine_protection.specs.declared.words.Rights.TheVariants.{Ram, Stack}
 use Rattle.machine_protection.specs.RegionWords.{region_of}
-use Rattle.plan_model.specs.Blocks.{block, subregions_out, region_bytes, offset_in_region}
+use Rattle.plan_model.specs.Blocks.{block_size_for, subregions_out, region_bytes, offset_in_region}
 use Rattle.plan_model.specs.Slots.{cover_slot, slots_from}
 use Rattle.example_plan.specs.Written.{global, data_of, cover, words}
 
 -- MPU_RASR of a region's block for so many bytes
 abbrev pub attributes : (bytes : ℕ) → ℕ
-attributes n = (region_of 4 0x20000000 (block n) (subregions_out (block n) n) Ram).rasr
+attributes n = (region_of 4 0x20000000 (block_size_for n) (subregions_out (block_size_for n) n) Ram).rasr
 
 pub record ComputesWords : Type 0 where
-  pub blocks : map block (0 ∷ 1 ∷ 32 ∷ 33 ∷ 256 ∷ 257 ∷ 600 ∷ 65536 ∷ []) ≡ 32 ∷ 32 ∷ 32 ∷ 64 ∷ 256 ∷ 512 ∷ 1024 ∷ 65536 ∷ []
+  pub blocks : map block_size_for (0 ∷ 1 ∷ 32 ∷ 33 ∷ 256 ∷ 257 ∷ 600 ∷ 65536 ∷ []) ≡ 32 ∷ 32 ∷ 32 ∷ 64 ∷ 256 ∷ 512 ∷ 1024 ∷ 65536 ∷ []
   pub six_hundred : attributes 600 ≡ 0x1306e013
   pub one : attributes 1 ≡ 0x13060009
   pub whole : attributes 256 ≡ 0x1306000f

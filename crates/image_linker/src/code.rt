@@ -104,7 +104,7 @@ fn put_function(
     ensures entry { OnOk result (entry_address (places_in making.now.addresses.now making.now.numbers.now func) func ≡ here asm.old) }
     ensures exact { OnOk result (asm.new ≡ with_filled asm.old (func_at (program_in making.now) func) (places_in making.now.addresses.now making.now.numbers.now func) (size_in (places_in making.now.addresses.now making.now.numbers.now func) (func_at (program_in making.now) func))) }
 {
-    code_lower_laws::laws::typed();
+    code_lower_laws::laws::typed_functions();
     let Some(size) = size_of(making.program, making.numbers, func) else {
         return Err(AllocError);
     };

@@ -26,7 +26,7 @@ use ir_program::peripherals::windows;
 use ir_program::program::Program;
 use machine_devices::image::Image;
 use monitor_model::{InitRecord, SiteRecord, Tables, TargetRecord};
-use plan_crossings::{compartment_of, crossing_sites, lent};
+use plan_crossings::{compartment_of, crossing_sites, lent_locals};
 use plan_model::graph::Final;
 use plan_model::needs::{Needs, SiteNeed};
 use plan_model::plan::{Board, Plan};
@@ -213,7 +213,7 @@ pub fn link_parts(
     ensures { IfOk result (AreLinkParts (program_of program.now) needs.now graph.now plan.now board.now) }
 {
     let sites = crossing_sites(alloc, needs, &graph.groups)?;
-    let lent = lent(needs, &graph.groups);
+    let lent = lent_locals(needs, &graph.groups);
     let numbers = numbers_of(alloc, program, &sites, lent)?;
     let addresses = addresses(alloc, program, graph, plan, &numbers)?;
     let making = Making {

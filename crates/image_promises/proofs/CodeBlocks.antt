@@ -15,7 +15,7 @@ use Rattle.plan_model.specs.declared.plan.Plan.{Plan}
 use Rattle.plan_model.specs.declared.plan.Spot.{Spot}
 use Rattle.plan_model.specs.declared.plan.Sizes.{Sizes}
 use Rattle.plan_model.specs.Placement.{compartment_spot, no_spot}
-use Rattle.plan_model.specs.Blocks.{block}
+use Rattle.plan_model.specs.Blocks.{block_size_for}
 use Rattle.code_model.specs.CompartmentCode.{compartment_size}
 use Rattle.code_model.specs.Planned.{code_groups}
 use Rattle.monitor_model.specs.declared.tables.CompRecord.{CompRecord}
@@ -79,7 +79,7 @@ module _ (law : PlanLaws) (held : RegionsHoldTheirBlocks) (planned : PlannedPrem
       let spot = compartment_spot l c in
       let base = base_is c (omega (arith, there, count)) in
       let block_is = code_block_is law planned c there in
-      let size : spot.size ≡ block (get_or s.code c 0) = code_size_is p f s b c there in
+      let size : spot.size ≡ block_size_for (get_or s.code c 0) = code_size_is p f s b c there in
       let power = block_is.0 in
       let exact : spot.size ≡ 2 ^ power.0 = size ∙ power.3 in
       let code : get_or s.code c 0 ≡ compartment_size p (code_groups p n f.groups) c =

@@ -10,7 +10,7 @@ use Rattle.plan_model.specs.declared.plan.Sizes.{Sizes}
 use Rattle.plan_model.specs.declared.plan.Plan.{Plan}
 use Rattle.plan_model.specs.declared.plan.Spot.{Spot}
 use Rattle.plan_model.specs.Regions.{region_at}
-use Rattle.plan_model.specs.Blocks.{block, region_bytes}
+use Rattle.plan_model.specs.Blocks.{block_size_for, region_bytes}
 use Rattle.plan_model.specs.RamBlocks.{ForStack, ForMonitor, ForRegion}
 use Rattle.plan_model.specs.Placement.{region_spot}
 use Rattle.plan_layout_laws.specs.RamLaws.{open_bytes}
@@ -59,14 +59,14 @@ module _ (law : PlanLaws) (planned : PlannedPremises) (r : ℕ) (lt : r < length
   of_region : IsUse f (ForRegion r)
   of_region = record { of_globals = tt; there = lt }
 
-  size_is : spot.size ≡ block bytes
+  size_is : spot.size ≡ block_size_for bytes
   size_is = block_size_is law planned (ForRegion r) of_region
 
-  block_small : block bytes < 2 ^ 32
+  block_small : block_size_for bytes < 2 ^ 32
   block_small = small law planned (ForRegion r) of_region
 
   pub power : IsPowerBetween 5 31 spot.size
-  power = subst (IsPowerBetween 5 31) (sym size_is) (below_top (block bytes) (small_block bytes block_small).0 block_small)
+  power = subst (IsPowerBetween 5 31) (sym size_is) (below_top (block_size_for bytes) (small_block bytes block_small).0 block_small)
 
   pub aligned : spot.base % spot.size ≡ 0
   aligned = subst (λ z. spot.base % z ≡ 0) (sym size_is) (block_in law planned (ForRegion r) of_region).1

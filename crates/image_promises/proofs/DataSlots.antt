@@ -25,7 +25,7 @@ use Rattle.plan_model.specs.declared.plan.Sizes.{Sizes}
 use Rattle.plan_model.specs.declared.plan.Spot.{Spot}
 use Rattle.plan_model.specs.Lists.{has}
 use Rattle.plan_model.specs.Regions.{region_at}
-use Rattle.plan_model.specs.Blocks.{block, has_eighths, open_eighths, subregions_out, region_bytes}
+use Rattle.plan_model.specs.Blocks.{block_size_for, has_eighths, open_eighths, subregions_out, region_bytes}
 use Rattle.plan_model.specs.RamBlocks.{ForRegion}
 use Rattle.plan_model.specs.Placement.{region_spot}
 use Rattle.plan_model.specs.Slots.{SlotUse, data_rights, data_slot, cover_slot}
@@ -129,7 +129,7 @@ module _ (laws : DataLaws) (planned : PlannedPremises) where
   pub slot_holds : (c r a m : ℕ) → r < length f.regions → m < 16 → IsTrue (holds (use_region m (data_slot p f l c r)) a) ↔ HoldsAddress p f l (ForRegion r) a
   slot_holds c r a m h number =
       let u = is_use r h in
-      let size : (region_spot l r).size ≡ block (bytes_of r) = block_size_is law.plans planned (ForRegion r) u in
+      let size : (region_spot l r).size ≡ block_size_for (bytes_of r) = block_size_is law.plans planned (ForRegion r) u in
       let most = small law.plans planned (ForRegion r) u in
       let is = small_block (bytes_of r) most in
       let exact : (region_spot l r).size ≡ 2 ^ is.0.0 = size ∙ is.0.3 in

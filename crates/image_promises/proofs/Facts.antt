@@ -10,7 +10,7 @@ use Rattle.ir_model.specs.Resolve.{resolve}
 use Rattle.plan_model.specs.declared.plan.Sizes.{Sizes}
 use Rattle.plan_model.specs.declared.plan.Plan.{Plan}
 use Rattle.plan_model.specs.Choices.{greatest}
-use Rattle.plan_model.specs.Blocks.{block}
+use Rattle.plan_model.specs.Blocks.{block_size_for}
 use Rattle.plan_model.specs.TableSize.{table_bytes}
 use Rattle.plan_model.specs.FlashPlacement.{flash_blocks, code_blocks, tables_block, flash_needed}
 use Rattle.plan_model.specs.RamBlocks.{ForStack, ForMonitor}
@@ -78,12 +78,12 @@ module _ (law : PlanLaws) (planned : PlannedPremises) where
   pub code_blocks_count : length s.code ≡ f.groups.count
   code_blocks_count = length-map-range_with_len _ 0 f.groups.count
 
-  pub tables_at_most : max (block s.tables) (greatest (code_blocks s)) ≤ flash_needed s
+  pub tables_at_most : max (block_size_for s.tables) (greatest (code_blocks s)) ≤ flash_needed s
   unfolding flash_blocks
   tables_at_most = let e = sum_cons (tables_block s) (code_blocks s) in omega (arith, e)
 
   -- the tables have room in their block
-  pub tables_block_is : IsPowerBetween 5 32 (block s.tables) × (s.tables ≤ block s.tables)
+  pub tables_block_is : IsPowerBetween 5 32 (block_size_for s.tables) × (s.tables ≤ block_size_for s.tables)
   tables_block_is = let h = tables_at_most in let m = needed_most in small_block s.tables (omega (arith, h, m))
 
   pub tables_least : 4128 ≤ s.tables
@@ -94,14 +94,14 @@ module _ (law : PlanLaws) (planned : PlannedPremises) where
   flash_least = let h = tables_at_most in let t = tables_least in let u = tables_block_is.1 in omega (arith, h, t, u)
 
   -- and the code of a compartment in its own
-  pub code_at_most : (c : ℕ) → c < length s.code → block (get_or s.code c 0) ≤ flash_needed s
+  pub code_at_most : (c : ℕ) → c < length s.code → block_size_for (get_or s.code c 0) ≤ flash_needed s
   unfolding flash_blocks
   code_at_most c lt =
-      let e = get_or-map block s.code c 0 0 lt in
+      let e = get_or-map block_size_for s.code c 0 0 lt in
       let h = one_of_sum (tables_block s ∷ code_blocks s) (suc c) in
       omega (arith, e, h)
 
-  pub code_block_is : (c : ℕ) → c < length s.code → IsPowerBetween 5 32 (block (get_or s.code c 0)) × (get_or s.code c 0 ≤ block (get_or s.code c 0))
+  pub code_block_is : (c : ℕ) → c < length s.code → IsPowerBetween 5 32 (block_size_for (get_or s.code c 0)) × (get_or s.code c 0 ≤ block_size_for (get_or s.code c 0))
   code_block_is c lt = let h = code_at_most c lt in let m = needed_most in small_block (get_or s.code c 0) (omega (arith, h, m))
 
   -- ---- RAM

@@ -9,7 +9,7 @@ use Rattle.plan_model.specs.declared.plan.Sizes.{Sizes}
 use Rattle.plan_model.specs.declared.plan.Spot.{Spot}
 use Rattle.plan_model.specs.Lists.{numbers_below}
 use Rattle.plan_model.specs.Choices.{greatest}
-use Rattle.plan_model.specs.Blocks.{block}
+use Rattle.plan_model.specs.Blocks.{block_size_for}
 use Rattle.plan_model.specs.FlashPlacement.{flash_blocks, code_blocks, tables_block, flash_spot, code_spot, flash_needed}
 use Rattle.plan_model.specs.Placement.{plan_of, compartment_spot, no_spot, flash_used}
 use Rattle.ir_model.specs.Resolved.{Program}
@@ -41,7 +41,7 @@ module _ (p : Program) (f : Final) (s : Sizes) (b : Board) where
   size_is =
       let spot : ℕ → Spot = code_spot b.flash_base s in
       let spots = map spot (numbers_below (length s.code)) in
-      let e = length-map s.code block in
+      let e = length-map s.code block_size_for in
       let all : map (λ (t : Spot). t.size) spots ≡ code_blocks s =
       mapped_twice (λ (t : Spot). t.size) spot (numbers_below (length s.code))
       ∙ (ap (λ n. map (λ k. get_or (code_blocks s) k 0) (numbers_below n)) (sym e) ∙ by_numbers (code_blocks s)) in
@@ -51,13 +51,13 @@ module _ (p : Program) (f : Final) (s : Sizes) (b : Board) where
   unfolding plan_of
   code_count = length-map-range_with_len (code_spot b.flash_base s) 0 (length s.code)
 
-  pub code_size_is : (c : ℕ) → c < length s.code → (compartment_spot (plan_of p f s b) c).size ≡ block (get_or s.code c 0)
+  pub code_size_is : (c : ℕ) → c < length s.code → (compartment_spot (plan_of p f s b) c).size ≡ block_size_for (get_or s.code c 0)
   unfolding plan_of flash_blocks
   code_size_is c l =
       ap (λ (t : Spot). t.size) (get_or-map-range_with_len (code_spot b.flash_base s) 0 (length s.code) c c no_spot l (omega arith))
-      ∙ get_or-map block s.code c 0 0 l
+      ∙ get_or-map block_size_for s.code c 0 0 l
 
-  pub tables_size_is : (plan_of p f s b).tables.size ≡ max (block s.tables) (greatest (code_blocks s))
+  pub tables_size_is : (plan_of p f s b).tables.size ≡ max (block_size_for s.tables) (greatest (code_blocks s))
   unfolding plan_of flash_blocks
   tables_size_is = refl
 
@@ -73,7 +73,7 @@ module _ (p : Program) (f : Final) (s : Sizes) (b : Board) where
   pub code_ends : (c : ℕ) → c < length s.code → (compartment_spot (plan_of p f s b) c).base + (compartment_spot (plan_of p f s b) c).size ≤ b.flash_base + flash_needed s
   code_ends c l =
       let e = spot_is c l in
-      let h = before_fits (flash_blocks s) (suc c) (more l (length-map s.code block)) in
+      let h = before_fits (flash_blocks s) (suc c) (more l (length-map s.code block_size_for)) in
       subst (λ (t : Spot). t.base + t.size ≤ b.flash_base + flash_needed s) (sym e) (omega (arith, h))
 
   pub tables_end : (plan_of p f s b).tables.size ≤ flash_needed s

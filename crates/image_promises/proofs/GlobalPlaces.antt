@@ -8,7 +8,7 @@ use Rattle.plan_model.specs.declared.plan.Plan.{Plan}
 use Rattle.plan_model.specs.declared.plan.Sizes.{Sizes}
 use Rattle.plan_model.specs.Lists.{has}
 use Rattle.plan_model.specs.Regions.{global_size}
-use Rattle.plan_model.specs.Blocks.{block, region_bytes, offset_in_region}
+use Rattle.plan_model.specs.Blocks.{block_size_for, region_bytes, offset_in_region}
 use Rattle.plan_model.specs.RamBlocks.{RamUse, ForStack, ForMonitor, ForRegion, ForUnwritten}
 use Rattle.plan_model.specs.Placement.{region_with, address_in, global_address}
 use Rattle.plan_layout_laws.specs.GlobalLaws.{HasAlignments, GlobalsAreLaid, GlobalsAreHeld}
@@ -141,7 +141,7 @@ module _ (law : GlobalLaws) (planned : PlannedPremises) where
       let bytes : ℕ = region_bytes p (globals_for f i.use_of) in
       let power = (small_block bytes (small law.plans planned i.use_of i.is_use)).0 in
       let five = power.1 in
-      let by_block : IsMultiple (2 ^ power.0) (block_for l i.use_of).base = subst (λ z. IsMultiple z (block_for l i.use_of).base) power.3 (from_no_rest (block bytes) (block_for l i.use_of).base (block_in law.plans planned i.use_of i.is_use).1) in
+      let by_block : IsMultiple (2 ^ power.0) (block_for l i.use_of).base = subst (λ z. IsMultiple z (block_for l i.use_of).base) power.3 (from_no_rest (block_size_for bytes) (block_for l i.use_of).base (block_in law.plans planned i.use_of i.is_use).1) in
       let by_four : IsMultiple 4 (block_for l i.use_of).base = multiples.through 4 (2 ^ power.0) (block_for l i.use_of).base (fours power.0 (omega (arith, five))) by_block in
       let by_it : IsMultiple a (block_for l i.use_of).base = multiples.through a 4 (block_for l i.use_of).base (in_fours a (global_shaped w x).fair.small) by_four in
       let offset : IsMultiple a (offset_in_region p (globals_for f i.use_of) x) = from_no_rest a (offset_in_region p (globals_for f i.use_of) x) ((law.laid p (globals_for f i.use_of) aligns).aligned x i.has_it) in

@@ -12,7 +12,7 @@ use Rattle.plan_model.specs.declared.plan.Sizes.{Sizes}
 use Rattle.plan_model.specs.Boards.{slots_of}
 use Rattle.plan_model.specs.Lists.{has}
 use Rattle.plan_model.specs.Regions.{region_at}
-use Rattle.plan_model.specs.Blocks.{block, region_bytes}
+use Rattle.plan_model.specs.Blocks.{block_size_for, region_bytes}
 use Rattle.plan_model.specs.TableSize.{words_in}
 use Rattle.plan_model.specs.RamBlocks.{RamUse, ForStack, ForMonitor, ForRegion, ForUnwritten}
 use Rattle.plan_layout_laws.specs.GlobalLaws.{GlobalsAreLaid}
@@ -111,7 +111,7 @@ module _ (law : ReadLaws) (typing : TypedOverNumbers) (laid : GlobalsAreLaid) (p
   even u h =
       let power = (small_block (use_bytes planned u) (small law.plans planned u h)).0 in
       let five = power.1 in
-      multiple_of (base u) 4 (2 ^ (power.0 - 2)) (block (use_bytes planned u)) (power.3 ∙ power_split 2 power.0 (omega (arith, five))) (block_in law.plans planned u h).1
+      multiple_of (base u) 4 (2 ^ (power.0 - 2)) (block_size_for (use_bytes planned u)) (power.3 ∙ power_split 2 power.0 (omega (arith, five))) (block_in law.plans planned u h).1
 
   words_fit : (bytes size : ℕ) → bytes ≤ size → size % 4 ≡ 0 → 4 * ((bytes + 3) / 4 * 4 / 4) ≤ size
   words_fit n z le m = omega (arith, le, m)
@@ -123,7 +123,7 @@ module _ (law : ReadLaws) (typing : TypedOverNumbers) (laid : GlobalsAreLaid) (p
       let power = is.0 in
       let five = power.1 in
       let exact = power.3 ∙ power_split 2 power.0 (omega (arith, five)) in
-      let fits = words_fit (use_bytes planned u) (block (use_bytes planned u)) is.1 (omega (arith, exact)) in
+      let fits = words_fit (use_bytes planned u) (block_size_for (use_bytes planned u)) is.1 (omega (arith, exact)) in
       let low = ins.0 in
       let high = ins.1 in
       (low, omega (arith, high, fits))

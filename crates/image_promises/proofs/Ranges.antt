@@ -11,7 +11,7 @@ use Rattle.plan_model.specs.declared.plan.Plan.{Plan}
 use Rattle.plan_model.specs.Lists.{numbers_below}
 use Rattle.plan_model.specs.Boards.{slots_of}
 use Rattle.plan_model.specs.Regions.{region_at}
-use Rattle.plan_model.specs.Blocks.{block, region_bytes}
+use Rattle.plan_model.specs.Blocks.{block_size_for, region_bytes}
 use Rattle.plan_model.specs.TableSize.{words_in}
 use Rattle.plan_model.specs.RamBlocks.{RamUse, ForStack, ForMonitor, ForRegion, ForUnwritten}
 use Rattle.plan_model.specs.Placement.{region_spot, no_spot}
@@ -119,7 +119,7 @@ abbrev pub use_bytes : PlannedPremises → RamUse → ℕ
 use_bytes planned u = region_bytes (resolve planned.firmware) (globals_for planned.final u)
 
 abbrev pub open_room : PlannedPremises → RamUse → ℕ
-open_room planned u = open_bytes (block (use_bytes planned u)) (use_bytes planned u)
+open_room planned u = open_bytes (block_size_for (use_bytes planned u)) (use_bytes planned u)
 
 -- shorter ranges are apart where longer ones from the same addresses are
 pub shorter_apart : (b n m c k j : ℕ) → n ≤ m → k ≤ j → AreApart b m c j → AreApart b n c k
@@ -138,20 +138,20 @@ module _ (law : PlanLaws) (planned : PlannedPremises) where
   abbrev filling : RamUse → ℕ
   filling u = 4 * words_in p (globals_for f u)
 
-  pub block_size_is : (u : RamUse) → IsUse f u → (block_for l u).size ≡ block (use_bytes planned u)
+  pub block_size_is : (u : RamUse) → IsUse f u → (block_for l u).size ≡ block_size_for (use_bytes planned u)
   block_size_is ForStack h = absurd h.of_globals
   block_size_is ForMonitor h = absurd h.of_globals
   block_size_is (ForRegion r) h = law.there p f _ b (ForRegion r) h.there
   block_size_is ForUnwritten h = law.there p f _ b ForUnwritten h.there
 
-  pub block_in : (u : RamUse) → IsUse f u → IsInside (block_for l u).base (block (use_bytes planned u)) b.ram_base b.ram_size × ((block_for l u).base % block (use_bytes planned u) ≡ 0)
+  pub block_in : (u : RamUse) → IsUse f u → IsInside (block_for l u).base (block_size_for (use_bytes planned u)) b.ram_base b.ram_size × ((block_for l u).base % block_size_for (use_bytes planned u) ≡ 0)
   block_in u h =
       let e = block_size_is u h in
       let q = block_positive (use_bytes planned u) in
       let i = law.inside p f _ b u ok.board ok.fits (omega (arith, e, q)) in
       subst (λ z. IsInside (block_for l u).base z b.ram_base b.ram_size × ((block_for l u).base % z ≡ 0)) e i
 
-  pub small : (u : RamUse) → IsUse f u → block (use_bytes planned u) < 2 ^ 32
+  pub small : (u : RamUse) → IsUse f u → block_size_for (use_bytes planned u) < 2 ^ 32
   small u h = let i = (block_in u h).0 in let a = i.1 in let d = ok.board.ram_highest in let m = ok.board.ram_size.most in omega (arith, a, d, m)
 
   -- a block holds the addresses of its open bytes

@@ -17,7 +17,7 @@ use Rattle.plan_model.specs.declared.plan.Spot.{Spot}
 use Rattle.plan_model.specs.Boards.{slots_of}
 use Rattle.plan_model.specs.Lists.{numbers_below, has}
 use Rattle.plan_model.specs.Regions.{region_at, regions_used, is_user}
-use Rattle.plan_model.specs.Blocks.{block, region_bytes, subregions_out}
+use Rattle.plan_model.specs.Blocks.{block_size_for, region_bytes, subregions_out}
 use Rattle.plan_model.specs.Placement.{region_spot, compartment_spot}
 use Rattle.plan_model.specs.Slots.{SlotUse, data_slot, cover_slot, slot_uses, slots_from, slot_regions, free_slot, code_region}
 use Rattle.monitor_model.specs.declared.tables.Tables.{Tables}
@@ -111,11 +111,11 @@ module _ (law : PlanLaws) (apart : WindowsLieApart) (planned : PlannedPremises) 
       let there : c < length s.code = omega (arith, lt, counted) in
       let count = code_count p f s b in
       let spot : Spot = compartment_spot l c in
-      let size : spot.size ≡ block (get_or s.code c 0) = code_size_is p f s b c there in
+      let size : spot.size ≡ block_size_for (get_or s.code c 0) = code_size_is p f s b c there in
       let most = code_at_most law planned c there in
       let needed = needed_most law planned in
       let power : IsPowerBetween 5 31 spot.size =
-      subst (IsPowerBetween 5 31) (sym size) (below_top (block (get_or s.code c 0)) (code_block_is law planned c there).0 (omega (arith, most, needed))) in
+      subst (IsPowerBetween 5 31) (sym size) (below_top (block_size_for (get_or s.code c 0)) (code_block_is law planned c there).0 (omega (arith, most, needed))) in
       let flash = laid law planned in
       let listed : c < length l.code = omega (arith, there, count) in
       let low = (flash.inside c listed).0 in

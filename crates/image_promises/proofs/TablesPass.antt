@@ -11,7 +11,7 @@ use Rattle.plan_model.specs.declared.plan.Sizes.{Sizes}
 use Rattle.plan_model.specs.declared.plan.Plan.{Plan}
 use Rattle.plan_model.specs.Boards.{slots_of}
 use Rattle.plan_model.specs.Slots.{code_region}
-use Rattle.plan_model.specs.Blocks.{block}
+use Rattle.plan_model.specs.Blocks.{block_size_for}
 use Rattle.plan_model.specs.FlashPlacement.{flash_needed}
 use Rattle.plan_model.specs.Placement.{compartment_spot}
 use Rattle.monitor_model.specs.declared.tables.Tables.{Tables}
@@ -85,7 +85,7 @@ module _ (law : ReadLaws) (typing : TypedOverNumbers) (planned : PlannedPremises
       let e = ends in
       let g = greatest_is in
       let h = tables_at_most law.plans planned in
-      subst (λ x. max (block x) (greatest_code t.comps) ≤ flash_needed s) (sym e) (omega (arith, g, h))
+      subst (λ x. max (block_size_for x) (greatest_code t.comps) ≤ flash_needed s) (sym e) (omega (arith, g, h))
 
   pub size_enough : area_end t ≤ t.base + tables_size t
   unfolding tables_size
@@ -93,7 +93,7 @@ module _ (law : ReadLaws) (typing : TypedOverNumbers) (planned : PlannedPremises
       let e = ends in
       let h = (tables_block_is law.plans planned).1 in
       let d = end_is law.counts p n f l b (has_compartments typing planned) in
-      subst (λ x. area_end t ≤ t.base + max (block x) (greatest_code t.comps)) (sym e) (omega (arith, d, h))
+      subst (λ x. area_end t ≤ t.base + max (block_size_for x) (greatest_code t.comps)) (sym e) (omega (arith, d, h))
 
   same_stack_base : t.stack.base ≡ (planned_image w n f b).stack_base
   unfolding linked tables_of

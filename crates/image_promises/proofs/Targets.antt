@@ -16,7 +16,7 @@ use Rattle.plan_model.specs.declared.graph.Final.{Final}
 use Rattle.plan_model.specs.declared.plan.Spot.{Spot}
 use Rattle.plan_model.specs.declared.plan.Sizes.{Sizes}
 use Rattle.plan_model.specs.declared.plan.Plan.{Plan}
-use Rattle.plan_model.specs.Blocks.{block}
+use Rattle.plan_model.specs.Blocks.{block_size_for}
 use Rattle.plan_model.specs.Placement.{compartment_spot, no_spot}
 use Rattle.plan_model.specs.Groups.{compartment_of}
 use Rattle.plan_model.specs.Crossing.{crossing_sites, stands_at, site_number, target_count}
@@ -88,7 +88,7 @@ module _ (law : TargetLaws) (planned : PlannedPremises) where
       let count = code_count p f s b in
       let there : c < length s.code = omega (arith, below, counted) in
       let base : get_or (map (λ (x : Spot). x.base) l.code) c 0 ≡ (compartment_spot l c).base = get_or-map (λ (x : Spot). x.base) l.code c no_spot 0 (omega (arith, there, count)) in
-      let size : (compartment_spot l c).size ≡ block (get_or s.code c 0) = code_size_is p f s b c there in
+      let size : (compartment_spot l c).size ≡ block_size_for (get_or s.code c 0) = code_size_is p f s b c there in
       let room = (code_block_is law.plans planned c there).1 in
       let code : get_or s.code c 0 ≡ compartment_size p (code_groups p n f.groups) c =
       get_or-map-range_with_len (compartment_size p (code_groups p n f.groups)) 0 f.groups.count c c 0 below (let e : 0 + c ≡ c = omega arith in e) in

@@ -5,7 +5,7 @@ ghost use Rattle.image_promises.specs.CodeInFlash.{CodeIsExact, CodeLies, CodePa
 use crate::flash::flash_has;
 use crate::promises::code as placed;
 use code_effects::laws::items;
-use code_lower_laws::laws::{compartments as branches, typed};
+use code_lower_laws::laws::{compartments as branches, typed_functions};
 use code_model::laws::{compartments, sites, sizes};
 use image_model::laws::counts;
 use ir_laws::limits::windows;
@@ -70,7 +70,7 @@ pub fn code()
     windows();
     sizes();
     sites();
-    typed();
+    typed_functions();
     branches();
     first_halfword_shows_length();
     flash_has();

@@ -16,7 +16,7 @@ use Rattle.ir_model.specs.Resolved.{Program}
 use Rattle.plan_model.specs.declared.graph.Cover.{Cover}
 use Rattle.plan_model.specs.declared.plan.Plan.{Plan}
 use Rattle.plan_model.specs.Boards.{slots_of}
-use Rattle.plan_model.specs.Blocks.{block, region_bytes}
+use Rattle.plan_model.specs.Blocks.{block_size_for, region_bytes}
 use Rattle.plan_model.specs.Covers.{no_cover}
 use Rattle.plan_model.specs.Lists.{numbers_below}
 use Rattle.plan_model.specs.Regions.{region_at, regions_used, is_user}
@@ -76,7 +76,7 @@ module _ (law : OwnSlotLaws) (planned : PlannedPremises) (ds : List Denied) (off
         let room = open_within (region_spot (plan w n f b) r).size (region_bytes p (region_at f.regions r).globals) in
         let x = h.1 in
         let y = inside.1 in
-        let has : (region_spot (plan w n f b) r).size ≡ block (region_bytes p (region_at f.regions r).globals) = block_size_is law.of_data.globals.plans planned (ForRegion r) u in
+        let has : (region_spot (plan w n f b) r).size ≡ block_size_for (region_bytes p (region_at f.regions r).globals) = block_size_is law.of_data.globals.plans planned (ForRegion r) u in
         let base = ok.board.ram_highest in
         let size = ok.board.ram_size.most in
         absurd (omega (arith, x, y, has, room, base, size, high))

@@ -4,7 +4,7 @@ use Rattle.std.specs.Prelude.{sum_by}
 use Rattle.std.proofs.lemmas.Bool.{leb-true, le-leb, and_parts as both}
 use Rattle.base_ranges.specs.Ranges.{is_inside}
 use Rattle.machine_devices.specs.declared.image.Image.{Image}
-use Rattle.plan_model.specs.Blocks.{block}
+use Rattle.plan_model.specs.Blocks.{block_size_for}
 use Rattle.monitor_laws.proofs.Checked.{must_none, and_none as none_parts}
 use Rattle.monitor_model.specs.declared.tables.Tables.{Tables}
 use Rattle.monitor_model.specs.Records.{words_in}
@@ -170,9 +170,9 @@ module _ (code : MonitorCode) (i : Image) (h : Head) (is : IsHead (drop page_siz
 -- ---- blocks
 
 -- the size of the tables' block
-pub size_is : (t : Tables) (n : ℕ) → area_end t ≡ t.base + n → tables_size t ≡ max (block n) (greatest_code t.comps)
+pub size_is : (t : Tables) (n : ℕ) → area_end t ≡ t.base + n → tables_size t ≡ max (block_size_for n) (greatest_code t.comps)
 unfolding tables_size
-size_is t n e = let d : area_end t - t.base ≡ n = omega (arith, e) in ap (λ m. max (block m) (greatest_code t.comps)) d
+size_is t n e = let d : area_end t - t.base ≡ n = omega (arith, e) in ap (λ m. max (block_size_for m) (greatest_code t.comps)) d
 
 pub size_holds : (t : Tables) (n : ℕ) → area_end t ≡ t.base + n → n ≤ 2 ^ 20 → area_end t ≤ t.base + tables_size t
 size_holds t n e small =

@@ -2,7 +2,7 @@
 use Rattle.std.proofs.Common.{◌≡◌, ℕ, ◌+◌, ◌-◌, ◌*◌, ◌^◌, ◌<◌, ◌≤◌, length, drop, max, Some, None, true, ap, ◌∙◌, arith}
 use Rattle.std.specs.Prelude.{sum_by}
 use Rattle.machine_devices.specs.declared.image.Image.{Image}
-use Rattle.plan_model.specs.Blocks.{block}
+use Rattle.plan_model.specs.Blocks.{block_size_for}
 use Rattle.monitor_model.specs.declared.tables.Tables.{Tables}
 use Rattle.monitor_model.specs.Records.{words_in}
 use Rattle.monitor_model.specs.Layout.{page_size, greatest_code, area_end, tables_size}
@@ -29,7 +29,7 @@ module _ (code : MonitorCode) (i : Image) (h : Head) (is : IsHead (drop page_siz
     ends : area_end (read_from code i) ≡ i.flash_base + n
     ends = area_is code i h is room some
 
-    size : tables_size (read_from code i) ≡ max (block n) (greatest_code (read_from code i).comps)
+    size : tables_size (read_from code i) ≡ max (block_size_for n) (greatest_code (read_from code i).comps)
     size = size_is (read_from code i) n ends
 
     refused : (block_lies i (read_from code i) ≡ true → ⊥) → tables_fail i (tables_of code i) ≡ Some (i.flash_base + page_size)
@@ -40,7 +40,7 @@ module _ (code : MonitorCode) (i : Image) (h : Head) (is : IsHead (drop page_siz
     end_fault lt = refused (λ e. let m = (lies_means code i h is e).0 in let d = ends in omega (arith, m, d, lt))
 
     -- the block does not
-    pub size_fault : length i.flash < max (block n) (greatest_code (tables_of code i).comps) → tables_fail i (tables_of code i) ≡ Some (i.flash_base + page_size)
+    pub size_fault : length i.flash < max (block_size_for n) (greatest_code (tables_of code i).comps) → tables_fail i (tables_of code i) ≡ Some (i.flash_base + page_size)
     size_fault lt =
         refused
         (λ e.
@@ -49,7 +49,7 @@ module _ (code : MonitorCode) (i : Image) (h : Head) (is : IsHead (drop page_siz
         let g = ap (λ (t : Tables). greatest_code t.comps) (tables_are code i) in
         omega (arith, m, d, g, lt))
 
-    pub passes : n ≤ length i.flash → length i.flash ≤ 2 ^ 20 → max (block n) (greatest_code (tables_of code i).comps) ≤ length i.flash → tables_fail i (tables_of code i) ≡ None
+    pub passes : n ≤ length i.flash → length i.flash ≤ 2 ^ 20 → max (block_size_for n) (greatest_code (tables_of code i).comps) ≤ length i.flash → tables_fail i (tables_of code i) ≡ None
     passes le few fits =
         let d = size in
         let g = ap (λ (t : Tables). greatest_code t.comps) (tables_are code i) in

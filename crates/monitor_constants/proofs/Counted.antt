@@ -8,7 +8,7 @@ use Rattle.std.proofs.lemmas.Bool.{cases_lt, leb-true}
 use mathlib.Core.Logic.{⊎_elim}
 use Rattle.std.proofs.lemmas.Nat.{mul-mod_first, mul-mod_second}
 use Rattle.plan_model.specs.Covers.{least_power}
-use Rattle.plan_model.specs.Blocks.{block}
+use Rattle.plan_model.specs.Blocks.{block_size_for}
 use Rattle.plan_model.proofs.Powers.{next_power_is_block}
 use Rattle.base_words.specs.Arithmetic.{word}
 use Rattle.machine_protection.specs.declared.region.Region.{Region}
@@ -58,8 +58,8 @@ all_fit r whole n e small few = omega arith
 -- ---- blocks
 
 -- of more bytes than a power holds the block is the greatest
-block_of_more : (n : ℕ) → 2 ^ 32 < n → block n ≡ 2 ^ 32
-unfolding block least_power
+block_of_more : (n : ℕ) → 2 ^ 32 < n → block_size_for n ≡ 2 ^ 32
+unfolding block_size_for least_power
 block_of_more n more = ap (λ o. unwrap_or o (2 ^ 32)) (find_none (nat_le n) 5 28 (λ i u v. fails i (nat_le n (2 ^ i)) refl (pow_mono {i = i} {j = 32} (omega arith))))
   where
     fails : (i : ℕ) (b : Bool) → nat_le n (2 ^ i) ≡ b → 2 ^ i ≤ 2 ^ 32 → nat_le n (2 ^ i) ≡ false
@@ -67,10 +67,10 @@ block_of_more n more = ap (λ o. unwrap_or o (2 ^ 32)) (find_none (nat_le n) 5 2
     fails i false e le = e
 
 -- by the number as far as it fits
-pub greatest_block : (n bytes : ℕ) → bytes ≡ min n most → 2 ^ 32 < bytes → 2 ^ 32 ≡ block n
+pub greatest_block : (n bytes : ℕ) → bytes ≡ min n most → 2 ^ 32 < bytes → 2 ^ 32 ≡ block_size_for n
 greatest_block n bytes e more = sym (block_of_more n (omega arith))
 
-pub least_block : (n bytes p : ℕ) → bytes ≡ min n most → bytes ≤ 2 ^ 32 → IsPowerOfTwo p → max bytes 32 ≤ p → p / 2 < max bytes 32 → p ≡ block n
+pub least_block : (n bytes p : ℕ) → bytes ≡ min n most → bytes ≤ 2 ^ 32 → IsPowerOfTwo p → max bytes 32 ≤ p → p / 2 < max bytes 32 → p ≡ block_size_for n
 least_block n bytes p e small power least greatest =
     let same : n ≡ bytes = omega arith in
     sym (next_power_is_block n p (omega arith) power (omega arith) (omega arith))

@@ -1,7 +1,7 @@
 //! The sizes that are counted of tables: their initial words, the greatest code region, and the block for so many bytes.
 
 ghost use Rattle.std.specs.Prelude.{◌≡◌, ℕ, ◌*◌, ◌<◌, ◌≤◌, ◌^◌, length, min, sum_by};
-ghost use Rattle.plan_model.specs.Blocks.{block};
+ghost use Rattle.plan_model.specs.Blocks.{block_size_for};
 ghost use Rattle.monitor_model.specs.Records.{words_in};
 ghost use Rattle.monitor_model.specs.Layout as layout;
 ghost use Rattle.monitor_constants.specs.Sizes.{most};
@@ -35,7 +35,7 @@ pub fn greatest_code(comps: &[CompRecord]) -> u64
 
 /// The block for so many bytes; of more than fit 64 bits it is the greatest.
 pub fn block_of(bytes: u64) -> u64
-    ensures exact { (n : ℕ) → bytes ≡ min n most → result ≡ block n }
+    ensures exact { (n : ℕ) → bytes ≡ min n most → result ≡ block_size_for n }
     ensures small { result ≤ 2 ^ 32 }
 {
     if bytes > 1 << 32 {

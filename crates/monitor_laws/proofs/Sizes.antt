@@ -7,7 +7,7 @@ use Rattle.std.specs.List.{range_with_len}
 use Rattle.std.specs.Int.{IsPowerOfTwo}
 use Rattle.machine_protection.specs.Regions.{size_log}
 use Rattle.plan_model.specs.Covers.{powers_of_two, least_power}
-use Rattle.plan_model.specs.Blocks.{block}
+use Rattle.plan_model.specs.Blocks.{block_size_for}
 use Rattle.base_laws.specs.Lists.{Each}
 use Rattle.monitor_model.specs.declared.tables.CompRecord.{CompRecord}
 use Rattle.monitor_model.specs.declared.tables.Tables.{Tables}
@@ -32,8 +32,8 @@ found_size test (x ∷ xs) d e h = by_test (test x) (found_size test xs d e.1 h)
     by_test true l = e.0
     by_test false l = l
 
-block_size_is : (n : ℕ) → IsSize (block n)
-unfolding block least_power
+block_size_is : (n : ℕ) → IsSize (block_size_for n)
+unfolding block_size_for least_power
 block_size_is n = found_size (λ k. nat_le n k) powers_of_two (2 ^ 32) (each_size 5 28 (omega arith)) (size_of_power 32 (omega arith))
 
 max_is : (a b : ℕ) → (max a b ≡ a) ⊎ (max a b ≡ b)
@@ -49,7 +49,7 @@ greatest_is (c ∷ cs) = ⊎_elim (λ e. inr (size_log c.code, e)) (λ e. ⊎_el
 pub tables_size_is : (t : Tables) → IsSize (tables_size t)
 unfolding tables_size
 tables_size_is t =
-    let b : ℕ = block (area_end t - t.base) in
+    let b : ℕ = block_size_for (area_end t - t.base) in
     let s = block_size_is (area_end t - t.base) in
     let m = max_above b (greatest_code t.comps) in
     let least : 32 ≤ max b (greatest_code t.comps) = let l = s.1 in omega (arith, m, l) in

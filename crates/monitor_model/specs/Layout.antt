@@ -1,7 +1,7 @@
 -- Where the parts of the tables' block stand in flash, and how many bytes it has. Addresses are absolute.
 use Rattle.std.specs.Prelude.{ℕ, ◌+◌, ◌-◌, ◌*◌, ◌^◌, List, [], ◌∷◌, length, max, sum_by}
 use Rattle.machine_protection.specs.Regions.{size_log}
-use Rattle.plan_model.specs.Blocks.{block}
+use Rattle.plan_model.specs.Blocks.{block_size_for}
 use Rattle.monitor_model.specs.declared.tables.CompRecord.{CompRecord}
 use Rattle.monitor_model.specs.declared.tables.Tables.{Tables}
 use Rattle.monitor_model.specs.Records.{number_of_slots, words_in}
@@ -59,4 +59,4 @@ greatest_code (c ∷ cs) = max (2 ^ size_log c.code) (greatest_code cs)
 
 -- the tables' block is no smaller than any code region, so it stands first in flash
 unfoldable pub tables_size : Tables → ℕ
-tables_size t = max (block (area_end t - t.base)) (greatest_code t.comps)
+tables_size t = max (block_size_for (area_end t - t.base)) (greatest_code t.comps)

@@ -17,7 +17,7 @@ use ir_program::value::Value;
 use need_sets::{Node, Numbering, Rules, System};
 use std::alloc::{AllocError, Global};
 
-/// Rules that ask nothing, of so many nodes.
+/// Rules that ask nothing, of a number of nodes.
 fn no_rules<'a>(alloc: Global, nodes: u32) -> Result<Rules<'a>, AllocError>
     ensures { IfOk result (λ rules. (c : numberings.Numbering) → Represents c rules []) }
 {

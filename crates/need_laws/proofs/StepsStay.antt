@@ -94,7 +94,7 @@ allowed p c (Running [] m) = tt
 allowed p c (Running (fr ∷ rest) m) = turned p c fr rest m (here p fr.func fr.block fr.place)
 allowed p c (Ended e) = tt
 
--- ---- so what it reaches is listed
+-- ---- therefore what it reaches is listed
 
 module _ (p : Program) (S : ObjectSets) (closed : Bool) (n : Needs) (needs : AreNeeds p S closed n) where
   listed : (d : StepEffect) → IsAllowed p d → IsExpected p S d → IsInNeeds n d

@@ -83,7 +83,7 @@ pub record IsOwn (fr : Frame) (f n : ℕ) (found : Frame) : Type 0 where
   pub number : fr.number ≡ n
   pub same : found ≡ fr
 
--- where a function does not reach itself, its frame is the running one if that is of the function
+-- the frame of a function that does not reach itself is the running one, if that is of the function
 abbrev pub FramesAreOwn : Type 0
 FramesAreOwn =
     (p : Program) (sizes : PlainType → ℕ) (S : ObjectSets) (fr : Frame) (rest : List Frame) (number : ℕ) (h : Frame) → FramesFit p sizes S (fr ∷ rest)
@@ -100,7 +100,7 @@ abbrev pub OtherLocalsAreLendable : Type 0
 OtherLocalsAreLendable =
     (p : Program) (sizes : PlainType → ℕ) (S : ObjectSets) (closed : Bool) (n : Needs) → AreNeeds p S closed n → LocalsAreOwn p sizes S closed n
 
--- where there are two compartments or more, a local without a number among the lent ones is not lendable
+-- a local without a number among the lent ones is not lendable, where there are two compartments or more
 abbrev pub LendableLocalsHaveNumbers : Type 0
 LendableLocalsHaveNumbers = (n : Needs) (g : Groups) (f l : ℕ) → nat_lt 1 g.count ≡ true → lend_number n g f l ≡ None → Contains n.lendable (f, l) → ⊥
 

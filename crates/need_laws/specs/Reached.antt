@@ -36,7 +36,7 @@ IsInNeeds n (Loaded f o) = IsListed (need_of n f).read o × ListsPeriph n f o
 IsInNeeds n (Stored f o) = IsListed (need_of n f).written o × ListsPeriph n f o
 IsInNeeds n (Called f b k g) = HasTarget n f b k g × Contains (need_of n f).callees g
 
--- whatever compartments and input a run has, no step of it leaves the needs
+-- no step of a run leaves the needs, whatever compartments and input it has
 abbrev pub RunsStayInNeeds : Program → Needs → Type 0
 RunsStayInNeeds p n =
     (compartments : List ℕ) (queues : List (List ℕ)) (steps : ℕ) → IsInNeeds n (source_turn p compartments (source_after p compartments queues steps)).did

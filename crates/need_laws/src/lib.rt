@@ -21,19 +21,19 @@ pub fn accesses()
     frame_accesses();
 }
 
-/// A call that is no crossing site stays in its compartment, and so do the frames that wait at such calls.
+/// A call that is no crossing site stays in its compartment, and each frame that waits at such a call stands in the compartment of the next.
 pub fn compartments()
     ensures calls { CallsStayInside }
     ensures frames { FramesAreGrouped }
 {}
 
-/// A function that waits reaches the one that it waits for, and so a function with two frames reaches itself.
+/// A function that waits reaches the one that it waits for. So a function with two frames reaches itself.
 pub fn frames()
     ensures waiting { WaitingFramesReach }
     ensures own { FramesAreOwn }
 {}
 
-/// A local that is not lendable is reached in its own running frame alone, and one that is has a number.
+/// A local that is not lendable is reached in its own running frame alone, and one that is lendable has a number.
 pub fn locals()
     ensures own { OtherLocalsAreLendable }
     ensures numbered { LendableLocalsHaveNumbers }

@@ -47,7 +47,7 @@ impl Groups {
         }
     }
 
-    /// Puts a group of so many items behind the others.
+    /// Puts a group with a number of items behind the others.
     ///
     /// # Errors
     ///

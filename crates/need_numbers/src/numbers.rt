@@ -71,7 +71,7 @@ impl Numbers {
         self.stretches[count - 1].push(number)
     }
 
-    /// The number at a place; none where there is no such place.
+    /// The number at a place; `None` if there is no such place.
     #[tactic(auto, using(crate::proofs::Cuts::placed, crate::proofs::Cuts::none_there))]
     pub fn get(&self, place: usize) -> Option<u32>
         ensures { result ≡ slice_get self.now place }

@@ -104,7 +104,7 @@ impl Row {
         Ok(true)
     }
 
-    /// The number at a place; none where the list has no such place.
+    /// The number at a place; `None` if the list has no such place.
     pub(crate) fn get(&self, place: usize) -> Option<u32>
         ensures { result ≡ slice_get self.now place }
     {

@@ -28,7 +28,7 @@ impl Model for Rows {
 }
 
 impl Rows {
-    /// So many empty lists.
+    /// `count` empty lists.
     ///
     /// # Errors
     ///
@@ -57,7 +57,7 @@ impl Rows {
         self.rows[list as usize].add(item)
     }
 
-    /// The item at a place of a list; none where the list has no such place.
+    /// The item at a place of a list; `None` if the list has no such place.
     pub fn get(&self, list: u32, place: u32) -> Option<u32>
         requires { list < length self.now }
         ensures { result ≡ slice_get (row self.now list) place }

@@ -90,7 +90,7 @@ impl Run {
         true
     }
 
-    /// The number at a place; none where there is no such place.
+    /// The number at a place; `None` if there is no such place.
     #[tactic(auto, using(crate::proofs::Runs::at_rising_place, crate::proofs::Runs::at_flat_place, crate::proofs::Runs::past_run))]
     pub(crate) fn get(&self, place: usize) -> Option<u32>
         ensures { result ≡ slice_get self.now place }

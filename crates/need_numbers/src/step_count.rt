@@ -1,4 +1,4 @@
-//! StepCount that are counted.
+//! Steps that are counted.
 
 ghost use Rattle.std.specs.Prelude.{◌≡◌, ◌+◌, ◌<◌};
 

@@ -140,7 +140,7 @@ impl Stretch {
         Ok(())
     }
 
-    /// The number at a place; none where there is no such place.
+    /// The number at a place; `None` if there is no such place.
     #[tactic(auto, using(crate::proofs::Cuts::in_runs, crate::proofs::Cuts::past_more, crate::proofs::Cuts::behind_runs))]
     pub(crate) fn get(&self, place: usize) -> Option<u32>
         ensures { result ≡ slice_get self.now place }

@@ -1,5 +1,5 @@
 -- Beyond the program's claim: only laws, proofs and functions inside the tool cite this file.
--- Between which nodes objects are passed on, and how many steps a search may take.
+-- The edges along which objects are passed on between nodes, and the number of steps that a search may take.
 use Rattle.std.specs.Prelude.{◌≡◌, ℕ, suc, ◌+◌, ◌*◌, ◌≤◌, true, List, length, count_by, Contains}
 use Rattle.std.specs.List.{sum_by}
 use Rattle.ir_model.specs.Resolved.{Program, register_type}

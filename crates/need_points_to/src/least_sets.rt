@@ -54,7 +54,7 @@ pub fn solve_counted<L: Ledger>(
     ensures steps { IfOk result (λ sets. IsWithinBound (program_of program.now) sets (steps.new - steps.old)) }
 {
     let pairs = search(alloc, program, steps)?;
-    pairs.done(alloc, program)
+    pairs.into_sets(alloc, program)
 }
 
 fn solve_on<L: Ledger>(

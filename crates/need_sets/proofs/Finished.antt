@@ -16,7 +16,7 @@ use Rattle.need_sets.specs.Sets.{Sets, AreInOrder, same_object, row_at, sets_of}
 use Rattle.need_sets.specs.Pairs.{IsWithin, has_number, is_pair, sets_by, object_at}
 use Rattle.need_sets.proofs.Numbered.{lists_numbers}
 
--- the first so many rows are the objects of the lists' numbers
+-- the first `node` rows are the objects of the lists' numbers
 pub record AreDone (by_number : List ObjId) (lists : Lists) (node : ℕ) (rows : List (List ObjId)) : Type 0 where
   pub count : length rows ≡ node
   pub each : (n : ℕ) → n < node → ListsExactly compare_objects (Contains (map (object_at by_number) (row lists n))) (get_or rows n [])

@@ -1,4 +1,4 @@
--- Sums of the first so many.
+-- Sums of the first values of a function.
 use Rattle.std.proofs.Common.{ℕ, zero, suc, ◌≤◌, arith}
 use Rattle.need_sets.specs.Solutions.{total}
 

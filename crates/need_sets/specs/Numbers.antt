@@ -31,7 +31,7 @@ node_number c (Outcome f) = place_of c.nodes (1 + c.funcs) f
 abbrev pub object_groups : Program → List ℕ
 object_groups p = length p.globals ∷ length p.periphs ∷ (map (λ (f : NumberedFunc). length f.locals) p.funcs ++ length p.funcs ∷ [])
 
--- how many registers of each function, objects and functions
+-- the number of registers of each function, of objects, and of functions
 abbrev pub node_groups : Program → (objects : ℕ) → List ℕ
 node_groups p objects = map (λ (f : NumberedFunc). length f.regs) p.funcs ++ objects ∷ length p.funcs ∷ []
 

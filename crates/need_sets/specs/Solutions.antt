@@ -1,5 +1,5 @@
 -- Beyond the program's claim: only laws, proofs and functions inside the tool cite this file.
--- When pairs are a solution of a system of constraints, and how many steps it may take to find it.
+-- Pairs that are a solution of a system of constraints, and the number of steps that it may take to find them.
 use Rattle.std.specs.Prelude.{◌≡◌, ◌≢◌, ℕ, zero, suc, ◌+◌, ◌*◌, ◌≤◌, ◌⊎◌, Bool, true, [], length, get_or, Some, nat_eq, Contains}
 use Rattle.std.specs.List.{IsDistinct}
 use Rattle.ir_program.specs.Seen.{program_of}
@@ -35,12 +35,12 @@ pub record IsNeeded (w : System) (rows : Lists) (a b : ℕ) : Type 0 where
 
 -- ---- steps
 
--- the sum of the first so many
+-- the sum of the first n values of f
 abbrev pub total : (ℕ → ℕ) → ℕ → ℕ
 total f zero = 0
 total f (suc n) = total f n + f n
 
--- so many steps at most were taken for pairs and the edges between them
+-- at most `count` steps were taken for pairs and the edges between them
 pub record IsBounded (w : System) (rows : Lists) (count : ℕ) : Type 0 where
   pub edges : Lists
   pub once : (a : ℕ) → IsDistinct nat_eq (row edges a)

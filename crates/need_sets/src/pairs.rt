@@ -44,7 +44,7 @@ impl Model for Pairs {
 }
 
 impl Pairs {
-    /// No pair of so many nodes and so many objects.
+    /// No pair, over `nodes` nodes and `objects` objects.
     ///
     /// # Errors
     ///
@@ -79,7 +79,7 @@ impl Pairs {
         self.rows.add(node, object)
     }
 
-    /// The object at a place of a node's list, from 0; none where the list has no such place. One step.
+    /// The object at a place of a node's list, from 0; `None` if the list has no such place. One step.
     pub fn member<L: Ledger>(&self, node: u32, place: u32, steps: &mut StepCount<L>) -> Option<u32>
         requires node { node < length self.now.rows }
         ensures exact { result ≡ slice_get (row self.now.rows node) place }
@@ -94,7 +94,7 @@ impl Pairs {
     /// # Errors
     ///
     /// There is no memory for them.
-    pub fn done(self, alloc: Global, program: &Program) -> Result<PointsTo, AllocError>
+    pub fn into_sets(self, alloc: Global, program: &Program) -> Result<PointsTo, AllocError>
         requires nodes { length self.rows ≡ sum (numbering_of (program_of program.now)).nodes }
         requires objects { self.objects ≡ sum (numbering_of (program_of program.now)).objects }
         ensures numbers { IfOk result (λ sets. sets.numbers ≡ numbering_of (program_of program.now)) }

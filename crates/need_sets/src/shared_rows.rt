@@ -50,7 +50,7 @@ fn number_of(object: &ObjId) -> u32 {
     }
 }
 
-/// Where a list is looked for among so many places for lists that are known. Equal lists have the same place.
+/// The place at which a list is looked for, of `places` places for lists that are known. Equal lists have the same place.
 fn place_of(objects: &[ObjId], places: usize) -> usize
     requires { 0 < places }
     ensures { result < places }
@@ -116,7 +116,7 @@ fn share(
 }
 
 impl SharedRows {
-    /// No rows, with places to know lists by for so many rows that will come.
+    /// No rows, with places to know lists by for the rows that will come.
     ///
     /// # Errors
     ///

@@ -114,7 +114,7 @@ added_more rows n o l e = pick (is_in rows n o) e
     pick true q = absurd (false≢true (sym q))
     pick false q = put_more rows n o l
 
--- lists without repeats stay so
+-- lists without repeats get none
 pub put_distinct : (rows : Lists) (n o : ℕ) → ((i : ℕ) → IsDistinct nat_eq (row rows i)) → is_in rows n o ≡ false → (i : ℕ) → IsDistinct nat_eq (row (set rows n (row rows n ++ o ∷ [])) i)
 put_distinct rows n o h e = each_replaced (λ i r. IsDistinct nat_eq r) rows n (row rows n ++ o ∷ []) h (IsDistinct-push nat_eq_equiv (row rows n) o (h n) e)
 

@@ -55,10 +55,10 @@ cost_grown s t g e n l =
     charge_grows s t a (omega arith) (g.lengths a) (omega arith)))
 
 -- a new edge, along which all was copied
-pub paid_link : (w : System) (s t u : State) (e : Edge) (m n : ℕ) → IsSoundState w s → IsCopied s t e → u.pairs ≡ t.pairs → u.log ≡ t.log → u.edges ≡ added t.edges e.from e.to → u.next ≡ t.next → is_in t.edges e.from e.to ≡ false → e.from < length s.pairs.rows
+pub paid_edge : (w : System) (s t u : State) (e : Edge) (m n : ℕ) → IsSoundState w s → IsCopied s t e → u.pairs ≡ t.pairs → u.log ≡ t.log → u.edges ≡ added t.edges e.from e.to → u.next ≡ t.next → is_in t.edges e.from e.to ≡ false → e.from < length s.pairs.rows
     → n ≤ m + 1 + 2 * length (row s.pairs.rows e.from) → IsPaid s u m n
 unfolding cost
-paid_link w s t u e m n h c p l q z new b steps =
+paid_edge w s t u e m n h c p l q z new b steps =
     let k : length u.pairs.rows ≡ length s.pairs.rows = ap (λ (x : ObjectRows). length x.rows) p ∙ c.grown.count in
     let r = subst (λ y. total (charge s) (length s.pairs.rows) + (1 + 2 * length (row s.pairs.rows e.from)) ≤ total (charge u) y) (sym k)
     (total_one (charge s) (charge u) (length s.pairs.rows) e.from (1 + 2 * length (row s.pairs.rows e.from)) b (λ a. charge_grows s u a (edges a) (rows a) (ends a)) one) in

@@ -29,17 +29,17 @@ put_next w s t u x k c e l q a b = record {
       (subst (λ (y : Pair). is_in u.pairs.rows y.node y.object ≡ true) e (has_put t u x.node x.object q a));
 }
 
-pub record IsLinking (w : System) (s t : State) (k : ℕ) : Type 0 where
+pub record IsPuttingEdges (w : System) (s t : State) (k : ℕ) : Type 0 where
   pub holds : IsSoundState w t
   pub grown : Grown s t
   pub next : t.next ≡ s.next
   pub each : (j : ℕ) → j < k → IsFound t.edges (get_or w.rules.copies.items j no_edge)
 
-pub link_none : (w : System) (s : State) → IsSoundState w s → IsLinking w s s 0
-link_none w s h = record { holds = h; grown = grown_none s; next = refl; each = λ j l. absurd (omega arith) }
+pub put_no_edges : (w : System) (s : State) → IsSoundState w s → IsPuttingEdges w s s 0
+put_no_edges w s h = record { holds = h; grown = grown_none s; next = refl; each = λ j l. absurd (omega arith) }
 
-pub link_next : (w : System) (s t u : State) (e : Edge) (k : ℕ) → IsLinking w s t k → e ≡ get_or w.rules.copies.items k no_edge → IsSoundState w u → Grown t u → u.next ≡ t.next → IsFound u.edges e → IsLinking w s u (k + 1)
-link_next w s t u e k c q h g n f = record {
+pub put_next_edge : (w : System) (s t u : State) (e : Edge) (k : ℕ) → IsPuttingEdges w s t k → e ≡ get_or w.rules.copies.items k no_edge → IsSoundState w u → Grown t u → u.next ≡ t.next → IsFound u.edges e → IsPuttingEdges w s u (k + 1)
+put_next_edge w s t u e k c q h g n f = record {
   holds = h;
   grown = grown_both s t u c.grown g;
   next = n ∙ c.next;

@@ -60,7 +60,7 @@ fn outcome(system: &System, ty: &Ty, func: u32) -> Option<u32>
     None
 }
 
-/// What a trigger asks for an object that came to its node; none where it asks nothing.
+/// What a trigger asks for an object that came to its node; `None` if it asks nothing.
 pub(crate) fn asked_edge(system: &System, trigger: &Trigger, object: u32) -> Option<Edge>
     ensures { result ≡ asked system.now trigger.now object }
 {

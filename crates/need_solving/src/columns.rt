@@ -67,7 +67,7 @@ impl Columns {
         Ok(())
     }
 
-    /// The pair at a place; none where there is no such place.
+    /// The pair at a place; `None` if there is no such place.
     #[tactic(auto, using(crate::proofs::LogPairs::stands, crate::proofs::LogPairs::no_node, crate::proofs::LogPairs::no_object))]
     pub(crate) fn get(&self, place: usize) -> Option<Pair>
         ensures { result ≡ slice_get self.now place }

@@ -35,7 +35,7 @@ impl Model for Log {
     ghost view = { λ l. l.first.items ++ l.others };
 }
 
-/// The pair at a place of a slice; none where there is no such place.
+/// The pair at a place of a slice; `None` if there is no such place.
 fn pair_at(pairs: &[Pair], place: usize) -> Option<Pair>
     ensures { result ≡ slice_get pairs.now place }
 {
@@ -65,7 +65,7 @@ impl Log {
         self.others.push(pair)
     }
 
-    /// The pair at a place; none where there is no such place.
+    /// The pair at a place; `None` if there is no such place.
     #[tactic(auto, using(crate::proofs::LogPairs::among_first, crate::proofs::LogPairs::among_others))]
     pub(crate) fn get(&self, place: usize) -> Option<Pair>
         ensures { result ≡ slice_get self.now place }

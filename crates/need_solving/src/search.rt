@@ -273,7 +273,7 @@ fn begin(alloc: Global, nodes: u32, objects: u32) -> Result<State, AllocError>
     })
 }
 
-/// The least pairs of so many nodes and objects that obey the rules.
+/// The least pairs of `nodes` nodes and `objects` objects that obey the rules.
 ///
 /// # Errors
 ///

@@ -1,5 +1,5 @@
 -- Beyond the program's claim: only laws, proofs and functions inside the tool cite this file.
--- Bounds of numbers, so that they fit in 32 bits.
+-- Bounds by which numbers fit in 32 bits.
 use Rattle.std.specs.Prelude.{ℕ, ◌<◌, ◌^◌, length}
 use Rattle.ir_model.specs.Resolved.{Program, func_at, block_at, here}
 use Rattle.needs.specs.Uses.{UsedAt}

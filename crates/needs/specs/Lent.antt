@@ -29,7 +29,7 @@ IsOwnOf p f x = (x.0 ≡ f) × (x.1 < length (func_at p f).locals)
 abbrev pub IsLendableFor : Program → (closed : Bool) → (func : ℕ) → FuncNeed → (recursive : Bool) → ℕ × ℕ → Type 0
 IsLendableFor p closed f n recursive x = IsLentBy p closed f n x ⊎ ((recursive ≡ true) × IsOwnOf p f x)
 
--- for what one of the functions does
+-- a local is lendable for what one of the functions does
 pub record IsLendableByNeeds (p : Program) (closed : Bool) (ns : List FuncNeed) (x : ℕ × ℕ) : Type 0 where
   pub func : ℕ
   pub there : func < length ns

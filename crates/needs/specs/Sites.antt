@@ -9,7 +9,7 @@ use Rattle.ir_laws.specs.Sets.{ObjectSets}
 use Rattle.plan_model.specs.declared.needs.SiteNeed.{SiteNeed}
 use Rattle.plan_model.specs.Calls.{CallPlace, IsSiteOf}
 
--- the register of a call is one of so many
+-- the register of a call is below `count`
 abbrev pub CallsBelow : (count : ℕ) → Operation → Type 0
 CallsBelow n (operation.ICall to r args) = r < n
 CallsBelow n o = Unit {0}

@@ -1,5 +1,5 @@
 -- Beyond the program's claim: only laws, proofs and functions inside the tool cite this file.
--- By what an instruction reaches objects and functions.
+-- The uses by which an instruction reaches objects and functions.
 use Rattle.std.specs.Prelude.{List, [], ◌∷◌, flat_map, Contains}
 use Rattle.ir_model.specs.Resolved.{NumberedInst, Load, Store, Call, ICall, NumberedBlock, Here, Does, Ends}
 use Rattle.needs.specs.declared.instructions.Use.TheVariants as uses
@@ -15,7 +15,7 @@ used _ = []
 abbrev pub uses_in : List NumberedBlock → List Use
 uses_in bs = flat_map (λ (b : NumberedBlock). flat_map used b.insts) bs
 
--- what stands at a place uses this
+-- the instruction at a place has this use
 abbrev pub UsedAt : Here → Use → Type 0
 UsedAt (Does i) u = Contains (used i) u
 UsedAt (Ends t) u = ⊥

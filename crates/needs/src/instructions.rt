@@ -1,4 +1,4 @@
-//! What the instructions of a function reach objects and functions by.
+//! The uses by which the instructions of a function reach objects and functions.
 
 ghost use Rattle.std.specs.Prelude.{◌≡◌, ◌++◌, ◌↔◌, List, map, IfOk, OnOk, Contains, flat_map};
 ghost use Rattle.std.specs.Option.{option_to_list};
@@ -10,7 +10,7 @@ use ir_program::program::{Operation, Sequence};
 use need_lists::each_once;
 use std::alloc::{AllocError, Global};
 
-/// What an instruction reaches objects or functions by.
+/// A use by which an instruction reaches objects or functions.
 #[derive(Clone, Copy, PartialEq, Eq, PartialOrd, Ord)]
 pub enum Use {
     /// A load by this register.
@@ -69,7 +69,7 @@ fn push_uses(operations: &[Operation], uses: &mut Vec<Use>) -> Result<(), AllocE
     Ok(())
 }
 
-/// What the instructions of blocks reach objects and functions by, each once.
+/// The uses by which the instructions of blocks reach objects and functions, each once.
 ///
 /// # Errors
 ///

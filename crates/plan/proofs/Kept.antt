@@ -34,7 +34,7 @@ by_all : (p : Program) (slots : ℕ) (g h : Graph) → Merges p slots g h → h.
 by_all p slots g h stays = refl
 by_all p slots g k (joins {h = h} e m) = by_all p slots h k m ∙ by_next p slots g h e
 
--- so the final graph has those of the first one
+-- the final graph has the compartments of the first one
 pub final_groups : (p : Program) (n : Needs) (g : Groups) (slots : ℕ) (f : Final) → IsFinal p n g slots f → f.groups ≡ g
 unfolding initial_graph
 final_groups p n g slots f m = ap (λ (x : Final). x.groups) m.is ∙ by_all p slots (initial_graph p n g) m.last m.reached

@@ -1,5 +1,5 @@
 -- Beyond the program's claim: only laws, proofs and functions inside the tool cite this file.
--- That planning has one answer, where there is memory enough: statements of laws.
+-- Statements of laws: planning has one answer, where there is memory enough.
 use Rattle.std.specs.Prelude.{◌≡◌, ◌≢◌}
 use Rattle.ir_model.specs.Resolved.{Program}
 use Rattle.plan_model.specs.declared.needs.Needs.{Needs}

@@ -4,7 +4,7 @@ ghost use Rattle.plan.specs.Laws.{PlansAreOne, PlansAreNotRefused, PlanningRefus
 
 use plan_graph::laws::final_graph_is_one;
 
-/// A firmware is planned for a board in one way alone, and where it is, the one refusal is that there is no memory. Where it cannot be
+/// A firmware is planned for a board in one way alone, and where it is planned, the one refusal is that there is no memory. Where it cannot be
 /// planned, there is one other refusal at most.
 pub fn one_answer()
     ensures one { PlansAreOne }

@@ -8,13 +8,13 @@ ghost use Rattle.plan_model.specs.FinalGraph.{IsFinal};
 ghost use Rattle.plan.specs.Planned.{IsPlaced, IsPlannedFor};
 ghost use Rattle.plan.specs.Refusals.{IsRoomRefusal, IsPlanningRefusal};
 
-use crate::refusal::{PlanningRefusal, unplaced};
+use crate::refusal::{PlanningRefusal, refusal_of_place};
 use ir_program::program::Program;
 use plan_denials::first_meeting;
 use plan_graph::initial::initial;
 use plan_graph::merge::merge;
 use plan_layout::place::place;
-use plan_limits::passed;
+use plan_limits::passed_limit;
 use plan_model::graph::Final;
 use plan_model::groups::Groups;
 use plan_model::needs::Needs;
@@ -79,7 +79,7 @@ fn placed_graph(
     let sizes = sizes(alloc, program, needs, &graph, board.slots())?;
     match place(alloc, program, &graph, &sizes, board) {
         Ok(plan) => Ok(PlannedFirmware { graph, sizes, plan }),
-        Err(refusal) => Err(unplaced(refusal)),
+        Err(refusal) => Err(refusal_of_place(refusal)),
     }
 }
 
@@ -125,7 +125,7 @@ pub fn planned_firmware(
     ensures ok { IfOk result (IsPlannedFor (program_of program.now) needs.now groups board.now) }
     ensures refused { IfErr result (IsPlanningRefusal (program_of program.now) needs.now groups board.now) }
 {
-    if let Some((which, count)) = passed(needs, &groups) {
+    if let Some((which, count)) = passed_limit(needs, &groups) {
         return Err(PlanningRefusal::Limit { which, count });
     }
     planned_within_limits(alloc, program, needs, groups, board)

@@ -38,7 +38,7 @@ impl From<AllocError> for PlanningRefusal {
 }
 
 /// The refusal of placement as one of planning.
-pub(crate) fn unplaced(refusal: PlaceRefusal) -> PlanningRefusal
+pub(crate) fn refusal_of_place(refusal: PlaceRefusal) -> PlanningRefusal
     ensures { result ≡ of_place refusal }
 {
     match refusal {

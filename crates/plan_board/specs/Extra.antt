@@ -26,7 +26,7 @@ extra_word ks ms = find (λ w. not (is_known ks w)) (words_of ms)
 abbrev pub inner_extra : (table : Key) → List Key → Members → Option (List ℕ)
 inner_extra t ks ms = option_map (behind t) (option_and_then (extra_word ks) (option_and_then as_table (get_member (word_of t) ms)))
 
--- the first of the table of what is denied that is no name
+-- the first key of the table `deny` that is no name
 abbrev pub unnamed_word : Members → Option (List ℕ)
 unnamed_word ms = find (λ w. not (is_name w)) (words_of ms)
 

@@ -1,5 +1,5 @@
--- The fields of a board in a document, in the order in which they are tested: a key is tested for being there, then for its
--- kind, then for its value.
+-- The fields of a board in a document, in the order in which they are tested: a key has to be there, then to have its kind,
+-- then to have a value that it may have.
 use Rattle.std.specs.Prelude.{ℕ, ℤ, pos, negsuc, List, [], Bool, true, false, Option, Some, None, Result, Ok, Err, if◌then◌else◌, bytes_eq, codes}
 use Rattle.plan_model.specs.declared.plan.Board.{Board}
 use Rattle.plan_model.specs.declared.plan.Lowest.{Lowest}

@@ -1,5 +1,5 @@
 -- Beyond the program's claim: only laws, proofs and functions inside the tool cite this file.
--- That a text describes one board, and is not refused where it describes one: statements of laws.
+-- Statements of laws: a text describes one board at most, and is not refused where it describes one.
 use Rattle.std.specs.Prelude.{◌≡◌, ℕ, List}
 use Rattle.plan_model.specs.declared.plan.Board.{Board}
 use Rattle.plan_board.specs.declared.fault.BoardFault.{BoardFault}

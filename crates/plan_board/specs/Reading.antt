@@ -62,7 +62,7 @@ IsDocument text ms = IsUtf8 text × (parse_document text ≡ Some ms)
 abbrev pub IsRead : (text : List ℕ) → Board → Type 0
 IsRead text b = (ms : Members) × IsDocument text ms × IsReadIn ms b
 
--- the text is one of a document that is refused so
+-- the text is one of a document that is refused for this fault
 abbrev pub IsRefused : (text : List ℕ) → BoardFault → Type 0
 IsRefused text e = (ms : Members) × IsDocument text ms × (reading ms ≡ Err e)
 

@@ -46,7 +46,7 @@ module _ {X : Type 0} {cmp : X → X → Ordering} (order : IsTotalOrder cmp) wh
       let rest = one_order xs ys a.1 b.1 (behind x y xs ys e a.0 f) (behind y x ys xs (sym e) b.0 g) in
       λ i. e i ∷ rest i
 
-  -- of exactly the same things there is one list
+  -- there is one list of exactly the same things
   pub one_list : (P Q : X → Type 0) (xs ys : List X) → ((x : X) → P x → Q x) → ((x : X) → Q x → P x) → ListsExactly cmp P xs → ListsExactly cmp Q ys → xs ≡ ys
   one_list P Q xs ys to from a b = one_order xs ys a.rising b.rising (λ z c. b.all z (to z (a.each z c))) (λ z c. a.all z (from z (b.each z c)))
 

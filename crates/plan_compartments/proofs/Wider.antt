@@ -1,4 +1,4 @@
--- What may be read, written, called and lent by sets of objects may be by sets that contain them.
+-- All that may be read, written, called and lent by sets of objects may be read, written, called and lent by sets that contain them.
 use Rattle.std.proofs.Common.{◌≡◌, ℕ, Bool, true}
 use Rattle.ir_model.specs.Resolved.{Program, Load, Store, Call, ICall, Does, Here, here}
 use Rattle.ir_model.specs.State.{Object, FunctionObject, LocalObject}

@@ -16,6 +16,6 @@ groups_by Filename fs = filename_groups fs
 groups_by Optimized fs = optimized_groups fs
 groups_by Peripheral fs = peripheral_groups fs
 
--- the compartments of a firmware whose functions need so much
+-- the compartments of a firmware by a policy, where its functions have these needs
 abbrev pub division : Policy → PlainFirmware → Needs → Groups
 division policy w n = compartments (groups_by policy (facts w n))

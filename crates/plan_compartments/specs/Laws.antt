@@ -1,5 +1,5 @@
 -- Beyond the program's claim: only laws, proofs and functions inside the tool cite this file.
--- That the needs of a firmware are one, and so are its compartments: statements of laws.
+-- Statements of laws: a firmware has one answer of needs, and one of compartments.
 use Rattle.std.specs.Prelude.{◌≡◌, Bool}
 use Rattle.ir_model.specs.Plain.{PlainFirmware}
 use Rattle.plan_model.specs.declared.needs.Needs.{Needs}

@@ -7,7 +7,7 @@ use Rattle.code_model.specs.declared.places.CallSite.{CallSite}
 use Rattle.code_model.specs.Planned.{call_sites_among}
 use Rattle.plan_crossings.specs.Seen.{seen_sites}
 
--- the call of a site, if the test says so
+-- the call of a site, if the test passes
 call_if : (b : Bool) (c : CallSite) (cs : List CallSite) → cond b (c ∷ cs) cs ≡ cond b (c ∷ []) [] ++ cs
 call_if true c cs = refl
 call_if false c cs = refl

@@ -8,7 +8,7 @@ ghost use Rattle.plan_crossings.specs.Filled.{filled_total};
 use ir_model::rounding::rounded_up;
 
 /// The bytes of the functions of a compartment that stand before a number, each filled up to a multiple of four, by the compartments and the
-/// bytes of all functions. None where they are 2^32 or more.
+/// bytes of all functions. `None` if they are 2^32 or more.
 pub fn bytes_before(
     compartments: &[u32],
     sizes: &[u32],

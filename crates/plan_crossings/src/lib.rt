@@ -59,7 +59,7 @@ pub fn crossing_sites<'a>(
     Ok(sites)
 }
 
-/// How many targets crossing sites have together. None where the number takes more than a word of this machine.
+/// How many targets crossing sites have together. `None` if the number takes more than a word of this machine.
 pub fn target_count(sites: &[&SiteNeed]) -> Option<usize>
     ensures { IfSome result (λ n. n ≡ crossing.target_count (seen_sites sites.now)) }
 {
@@ -120,7 +120,7 @@ pub fn call_sites(
 }
 
 /// The locals that are lent: the lendable ones, if there are compartments to lend them to.
-pub fn lent<'a>(needs: &'a Needs, groups: &Groups) -> &'a [(u32, u32)]
+pub fn lent_locals<'a>(needs: &'a Needs, groups: &Groups) -> &'a [(u32, u32)]
     ensures { result.now ≡ lending.lent needs.now groups.now }
 {
     if groups.count > 1 {

@@ -27,7 +27,7 @@ cover_is_off ds p f e c k d l m =
     let own = below_none (compartment_meeting ds f) f.groups.count c all l in
     no_meeting (Range c (get_or covers k d)) (first_met ds (get_or covers k d).base (get_or covers k d).size) (each_none (cover_meeting ds c) covers k d own m)
 
--- so no address of it is denied
+-- no address of such a cover is denied
 pub cover_is_allowed : (ds : List Denied) (p : Program) (f : Final) → KeepsOff ds p f → (c k : ℕ) (d : Cover) → c < f.groups.count → k < length (get_or f.covers c [])
     → (a : ℕ) → (get_or (get_or f.covers c []) k d).base ≤ a → a < (get_or (get_or f.covers c []) k d).base + (get_or (get_or f.covers c []) k d).size
     → Each (λ x. InDenied x a → ⊥) ds

@@ -12,12 +12,12 @@ pub taken : {Y : Type 0} (o : Option Y) (os : List (Option Y)) (y : Y) → o ≡
 taken None os y e = cc
 taken (Some z) os y e = e
 
--- where none gives any
+-- no item gives any
 pub none_of : {X Y : Type 0} (g : X → Option Y) (xs : List X) (d : X) → ((k : ℕ) → k < length xs → g (get_or xs k d) ≡ None) → None ≡ first_some (map g xs)
 none_of g [] d h = refl
 none_of g (x ∷ xs) d h = none_of g xs d (λ k l. h (suc k) (omega (arith, l))) ∙ sym (past (g x) (map g xs) (h 0 (omega arith)))
 
--- where the one at a place does, and none before it
+-- the item at a place gives one, and no item before it
 pub here_of : {X Y : Type 0} (g : X → Option Y) (xs : List X) (i : ℕ) (d : X) (y : Y) → i < length xs → ((k : ℕ) → k < i → g (get_or xs k d) ≡ None) → g (get_or xs i d) ≡ Some y
     → Some y ≡ first_some (map g xs)
 here_of g [] i d y l h e = absurd (omega (arith, l))

@@ -1,4 +1,4 @@
-//! What of a firmware meets a range that its board denies.
+//! The first range of addresses that a firmware asks for and its board denies.
 #![tactic(auto)]
 
 ghost use Rattle.std.specs.Prelude.{◌≡◌};

@@ -32,6 +32,6 @@ pub record IsPlanBy (policy : Policy) (w : PlainFirmware) (a : Analysis) (b : Bo
 abbrev pub IsPlanOf : Analysis → Board → PlannedFirmware → Type 0
 IsPlanOf a b x = (policy : Policy) (w : PlainFirmware) → IsAnalysisOf policy w b.closed a → IsPlanBy policy w a b x
 
--- and why there is none
+-- the reason why there is no such plan
 abbrev pub IsRefusalOf : Analysis → Board → PlanningRefusal → Type 0
 IsRefusalOf a b r = (policy : Policy) (w : PlainFirmware) → IsAnalysisOf policy w b.closed a → IsPlanningRefusal (resolve w) a.needs (division policy w a.needs) b r

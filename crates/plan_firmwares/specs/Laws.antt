@@ -1,5 +1,5 @@
 -- Beyond the program's claim: only laws, proofs and functions inside the tool cite this file.
--- That a firmware with a plan is not refused, and one without has one reason: statements of laws.
+-- Statements of laws: a firmware with a plan is not refused, and one without a plan is refused for one reason.
 use Rattle.std.specs.Prelude.{◌≡◌, ◌≢◌}
 use Rattle.plan_model.specs.declared.policy.Policy.{Policy}
 use Rattle.ir_model.specs.Plain.{PlainFirmware}

@@ -1,4 +1,4 @@
--- That a firmware has a plan for a board by a policy.
+-- A firmware that has a plan for a board by a policy.
 use Rattle.plan_model.specs.declared.policy.Policy.{Policy}
 use Rattle.ir_model.specs.Plain.{PlainFirmware}
 use Rattle.ir_model.specs.Resolve.{resolve}

@@ -1,4 +1,4 @@
--- Why a firmware has no plan for a board by a policy.
+-- The reason why a firmware has no plan for a board by a policy.
 use Rattle.plan_model.specs.declared.policy.Policy.{Policy}
 use Rattle.ir_model.specs.Plain.{PlainFirmware}
 use Rattle.ir_model.specs.Resolve.{resolve}
@@ -10,7 +10,7 @@ use Rattle.plan.specs.declared.refusal.PlanningRefusal.{PlanningRefusal}
 use Rattle.plan.specs.declared.refusal.PlanningRefusal.TheVariants.{NoMemory, Limit, Denied, Room}
 use Rattle.plan.specs.Refusals.{IsPlanningRefusal}
 
--- in the compartments of the policy, by the needs on a board of its kind, there is no plan, for this
+-- the firmware has no plan in the compartments of the policy, by the needs on a board of its kind, for this reason
 pub record IsRefusedBy (policy : Policy) (w : PlainFirmware) (b : Board) (r : PlanningRefusal) : Type 0 where
   pub needs : Needs
   pub are_needs : AreNeedsOf w b.closed needs

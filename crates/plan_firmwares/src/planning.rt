@@ -1,4 +1,4 @@
-//! Firmwares analysed, and planned for boards.
+//! The analysis of firmwares, and their plans for boards.
 
 ghost use Rattle.std.specs.Prelude.{◌≡◌, IfOk, IfErr, length};
 ghost use Rattle.ir_model.specs.Plain.{firmware_of, funcs_of};

@@ -34,7 +34,7 @@ more_joined p slots (joins f m) e = joins f (more_joined p slots m e)
 
 -- ---- an end
 
--- what a join keeps, and leaves fewer parts
+-- a graph that fits and has fewer parts than the one before it
 pub record Comes (g h : Graph) : Type 0 where
   pub fits : Fits h
   pub fewer : parts_of h < parts_of g

@@ -29,7 +29,7 @@ use Rattle.plan_graph.proofs.Pairs.{AreRegions, AreCovers, region_pair_among, co
 use Rattle.plan_graph.proofs.Steps.{fewer_regions, fewer_parts}
 use Rattle.plan_model.proofs.Numbers.{all_below}
 
--- where first and last address lie in one aligned range, it holds both
+-- an aligned range in which the first and the last address lie holds both covers
 pub inside_joined : (c d : Cover) (n : ℕ) → 0 < n → lowest c d / n ≡ highest c d / n
     → (is_inside c (record { base = lowest c d / n * n; size = n }) ≡ true) × (is_inside d (record { base = lowest c d / n * n; size = n }) ≡ true)
 inside_joined c d n some e =

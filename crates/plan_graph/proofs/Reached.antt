@@ -5,7 +5,7 @@ use Rattle.std.proofs.lemmas.List.Folds.{list_any-append}
 use Rattle.plan_model.specs.Lists.{numbers_below}
 use Rattle.plan_model.proofs.Numbers.{numbers_more}
 
--- none so far
+-- no number up to here passes the test
 pub none_more : (test : ℕ → Bool) (i : ℕ) → list_any test (numbers_below i) ≡ false → test i ≡ false → list_any test (numbers_below (i + 1)) ≡ false
 none_more test i h e =
     ap (list_any test) (numbers_more i) ∙ (list_any-append test (numbers_below i) (i ∷ []) ∙ (ap (λ b. b || (test i || false)) h ∙ ap (λ b. b || false) e))

@@ -6,16 +6,16 @@ use Rattle.ir_model.specs.Resolved.{Program, NumberedWindow}
 use Rattle.plan_model.specs.declared.graph.Cover.{Cover}
 use Rattle.plan_model.specs.declared.graph.Graph.{Graph}
 
--- first address and end are
+-- the first address and the end of a cover are within 32 bits
 pub record CoverFits (c : Cover) : Type 0 where
   pub base : c.base < 2 ^ 32
   pub end : c.base + c.size ≤ 2 ^ 32
 
--- those of each cover of a graph
+-- the covers of a graph are within 32 bits
 abbrev pub Fits : Graph → Type 0
 Fits g = All (λ (cs : List Cover). All CoverFits cs) g.covers
 
--- those of a peripheral's window
+-- the first address and the end of a peripheral's window are within 32 bits
 pub record WindowFits (w : NumberedWindow) : Type 0 where
   pub base : w.base < 2 ^ 32
   pub end : w.base + w.size ≤ 2 ^ 32

@@ -1,5 +1,5 @@
 -- Beyond the program's claim: only laws, proofs and functions inside the tool cite this file.
--- A graph that is being merged, with what is known of its regions; and what an attempt to join comes to.
+-- A graph while it is merged, with what is known of its regions; and what an attempt to join comes to.
 use Rattle.std.specs.Prelude.{◌≡◌, ℕ, ◌+◌, ◌<◌, Bool, true, false, Option, Some, None, List, length, sum_by}
 use Rattle.ir_program.specs.Seen.{program_of}
 use Rattle.plan_model.specs.declared.graph.Cover.{Cover}

@@ -59,7 +59,7 @@ pub(crate) fn count_unflagged(numbers: &[u32], flags: &[bool]) -> usize
 /// # Errors
 ///
 /// There is no memory for them.
-pub(crate) fn united(alloc: Global, ones: &[u32], others: &[u32]) -> Result<Vec<u32>, AllocError>
+pub(crate) fn union_of(alloc: Global, ones: &[u32], others: &[u32]) -> Result<Vec<u32>, AllocError>
     ensures { IfOk result (λ all. all.items ≡ union ones.now others.now) }
 {
     let mut all = Vec::from_slice(alloc, ones)?;

@@ -49,7 +49,7 @@ pub(crate) fn joined_size(one: &Cover, other: &Cover) -> u64
 }
 
 /// The join of two covers, if 32 bits tell its size: the least aligned range of a power of two of bytes that holds both.
-pub(crate) fn joined(one: &Cover, other: &Cover) -> Option<Cover>
+pub(crate) fn join_of(one: &Cover, other: &Cover) -> Option<Cover>
     ensures cover { IfSome result (λ cover. cover ≡ definition.joined one.now other.now) }
     ensures one { IfSome result (λ cover. definition.is_inside one.now cover ≡ true) }
     ensures other { IfSome result (λ cover. definition.is_inside other.now cover ≡ true) }

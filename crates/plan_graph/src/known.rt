@@ -1,11 +1,11 @@
-//! What is known of a data region, so that the cost of each join is told fast.
+//! Facts of a data region by which the cost of each join is told fast.
 
 ghost use Rattle.std.specs.Prelude.{◌≡◌, ◌*◌, IfOk, IfSome};
 ghost use Rattle.ir_program.specs.Seen.{program_of};
 ghost use Rattle.plan_model.specs.Regions as regions;
 ghost use Rattle.plan_graph.specs.Known.{IsKnown, exposure_of};
 
-use crate::flags::{count_unflagged, flags, united};
+use crate::flags::{count_unflagged, flags, union_of};
 use base_lists::ListVec;
 use ir_program::program::Program;
 use plan_model::graph::DataRegion;
@@ -77,7 +77,7 @@ pub(crate) fn known_of(
         return Err(AllocError);
     };
     let writers = Vec::from_slice(alloc, region.writers.as_slice())?;
-    let users = united(alloc, region.writers.as_slice(), region.readers.as_slice())?;
+    let users = union_of(alloc, region.writers.as_slice(), region.readers.as_slice())?;
     let writes = flags(alloc, &writers)?;
     let uses = flags(alloc, &users)?;
     Ok(Known {
@@ -89,7 +89,7 @@ pub(crate) fn known_of(
     })
 }
 
-/// So many bytes, as often as there are compartments.
+/// A size in bytes, times the number of compartments.
 fn bytes(size: u64, compartments: usize) -> Option<u64>
     ensures { IfSome result (λ bytes. bytes ≡ size * compartments) }
 {

@@ -1,4 +1,4 @@
-//! A graph that is being merged.
+//! A graph while it is merged.
 
 ghost use Rattle.std.specs.Prelude.{◌≡◌, ◌<◌, ◌+◌, [], ◌∷◌, ◌++◌, length, map, OnOk, IfOk, option_map};
 ghost use Rattle.std.specs.List.{All};
@@ -11,8 +11,8 @@ ghost use Rattle.plan_graph.specs.Known.{AreCosts, IsKnown, row_of};
 ghost use Rattle.plan_graph.specs.Merging.{IsMerging, CameTo};
 
 use crate::choices::{Choice, cheaper};
-use crate::flags::{is_flagged, united};
-use crate::joined::{cover_pair, joined, with_cover};
+use crate::flags::{is_flagged, union_of};
+use crate::joined::{cover_pair, join_of, with_cover};
 use crate::known::{Known, exposure, known_of};
 use base_lists::ListVec;
 use ir_program::program::Program;
@@ -20,7 +20,7 @@ use plan_model::graph::{Cover, DataRegion, Graph};
 use std::alloc::{AllocError, Global};
 use std::mem::replace;
 
-/// A graph that is being merged, with what is known of its data regions, so that no join computes it anew.
+/// A graph while it is merged, with facts of its data regions that no join computes anew.
 pub(crate) struct Merging<'a, 'b> {
     /// The firmware.
     pub(crate) program: &'a Program<'b>,
@@ -89,9 +89,9 @@ fn joined_region(
 ) -> Result<DataRegion, AllocError>
     ensures { IfOk result (λ region. region ≡ merging.joined_region one.now other.now) }
 {
-    let globals = united(alloc, one.globals.as_slice(), other.globals.as_slice())?;
-    let writers = united(alloc, one.writers.as_slice(), other.writers.as_slice())?;
-    let readers = united(alloc, one.readers.as_slice(), other.readers.as_slice())?;
+    let globals = union_of(alloc, one.globals.as_slice(), other.globals.as_slice())?;
+    let writers = union_of(alloc, one.writers.as_slice(), other.writers.as_slice())?;
+    let readers = union_of(alloc, one.readers.as_slice(), other.readers.as_slice())?;
     Ok(DataRegion {
         globals: ListVec::new(globals),
         writers: ListVec::new(writers),
@@ -297,7 +297,7 @@ impl Merging<'_, '_> {
         let Some(choice) = cover_pair(covers) else {
             return Ok(false);
         };
-        let Some(cover) = joined(&covers[choice.first], &covers[choice.second]) else {
+        let Some(cover) = join_of(&covers[choice.first], &covers[choice.second]) else {
             return Err(AllocError);
         };
         let covers = with_cover(alloc, covers, cover)?;

@@ -16,11 +16,11 @@ use Rattle.plan_layout.specs.declared.refusal.PlaceRefusal.TheVariants.{NoMemory
 use Rattle.plan_layout.specs.declared.flash.FlashPlan.{FlashPlan}
 use Rattle.plan_layout.specs.declared.place.RamPlan.{RamPlan}
 
--- where flash is too small
+-- the refusal where flash is too small
 abbrev pub flash_refusal : Sizes → Board → PlaceRefusal
 flash_refusal s b = Room (record { memory = memory.Flash; compartment = flash_named s; needed = flash_needed s; available = b.flash_size })
 
--- where RAM is
+-- the refusal where RAM is too small
 abbrev pub ram_refusal : Program → Final → Board → PlaceRefusal
 ram_refusal p f b = Room (record { memory = memory.Ram; compartment = ram_named p f; needed = ram_needed p f b; available = b.ram_size })
 

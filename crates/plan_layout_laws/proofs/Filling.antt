@@ -1,4 +1,4 @@
--- RAM is filled so that no address is in two areas: what blocks hold, and tails.
+-- No address of filled RAM is in two areas; an area is what a block holds, or a tail.
 use Rattle.std.proofs.Common.{◌≡◌, ℕ, ◌+◌, ◌<◌, ◌≤◌, ◌⊎◌, inl, inr, Bool, true, false, cond, List, [], ◌∷◌, ◌++◌, length, get_or, set, map, max, Option, Some, None, refl, sym, ap, subst, ◌∙◌, leb-true, arith}
 use Rattle.std.specs.List.{fold, position}
 use Rattle.std.proofs.lemmas.Bool.{cases_lt}
@@ -27,7 +27,7 @@ entries_joined : (es ds : List Entry) (x : ℕ) → entries_hit (es ++ ds) x ≡
 entries_joined [] ds x = omega arith
 entries_joined (e ∷ es) ds x = let ih = entries_joined es ds x in omega arith
 
--- the areas of RAM so far, and how often an address is in one
+-- how often an address is in an area of RAM, of those up to now
 abbrev areas_hit : Ram → List Entry → (x : ℕ) → ℕ
 areas_hit m es x = tails_hit m.tails x + entries_hit es x
 

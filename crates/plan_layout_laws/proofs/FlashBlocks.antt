@@ -12,7 +12,7 @@ use Rattle.plan_model.specs.declared.plan.Sizes.{Sizes}
 use Rattle.plan_model.specs.declared.plan.Spot.{Spot}
 use Rattle.plan_model.specs.declared.plan.Plan.{Plan}
 use Rattle.plan_model.specs.Boards.{IsBoard}
-use Rattle.plan_model.specs.Blocks.{block}
+use Rattle.plan_model.specs.Blocks.{block_size_for}
 use Rattle.plan_model.specs.Choices.{greatest}
 use Rattle.plan_model.specs.FlashPlacement.{bytes_before, flash_blocks, code_blocks, tables_block, flash_spot, code_spot, flash_needed}
 use Rattle.plan_model.specs.Placement.{plan_of, compartment_spot, no_spot}
@@ -87,7 +87,7 @@ module _ (p : Program) (f : Final) (s : Sizes) (b : Board) (ok : IsBoard b) (roo
 
   count : length (flash_blocks s) ≡ length s.code + 1
   unfolding flash_blocks
-  count = let n = length-map s.code block in omega arith
+  count = let n = length-map s.code block_size_for in omega arith
 
   code_count : length plan.code ≡ length s.code
   unfolding plan_of

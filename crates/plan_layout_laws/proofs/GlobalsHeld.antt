@@ -10,7 +10,7 @@ use Rattle.plan_model.specs.declared.plan.Plan.{Plan}
 use Rattle.plan_model.specs.Boards.{IsBoard}
 use Rattle.plan_model.specs.Lists.{has}
 use Rattle.plan_model.specs.Regions.{region_at, no_region, global_size}
-use Rattle.plan_model.specs.Blocks.{block, has_eighths, open_eighths, region_bytes, offset_in_region}
+use Rattle.plan_model.specs.Blocks.{block_size_for, has_eighths, open_eighths, region_bytes, offset_in_region}
 use Rattle.plan_model.specs.RamBlocks.{RamUse, ForRegion, ForUnwritten}
 use Rattle.plan_model.specs.Placement.{Fits, plan_of, region_with, global_address, address_in}
 use Rattle.plan_model.proofs.Powers.{small_block}
@@ -39,20 +39,20 @@ module _ (p : Program) (f : Final) (s : Sizes) (b : Board) (ok : IsBoard b) (fit
   abbrev plan : Plan
   plan = plan_of p f s b
 
-  -- a block of so many bytes holds them
-  bytes_held : (u : RamUse) (n : ℕ) → (block_for plan u).size ≡ block n → n ≤ open_bytes (block_for plan u).size n
+  -- the block for n bytes holds them
+  bytes_held : (u : RamUse) (n : ℕ) → (block_for plan u).size ≡ block_size_for n → n ≤ open_bytes (block_for plan u).size n
   bytes_held u n e =
       let some = block_positive n in
       let there : 0 < (block_for plan u).size = omega arith in
       let inside = (ram_is_inside p f s b u ok fits there).0.1 in
       let low = (ram_is_inside p f s b u ok fits there).0.0 in
       let most = ok.ram_size.most in
-      let small : block n < 2 ^ 32 = omega arith in
+      let small : block_size_for n < 2 ^ 32 = omega arith in
       let holds = (small_block n small).1 in
       open_enough (block_for plan u).size n (omega arith)
 
   -- a byte of a global of a block
-  byte_held : (u : RamUse) (globals : List ℕ) (x byte : ℕ) → (block_for plan u).size ≡ block (region_bytes p globals) → has globals x ≡ true → byte < global_size p x
+  byte_held : (u : RamUse) (globals : List ℕ) (x byte : ℕ) → (block_for plan u).size ≡ block_size_for (region_bytes p globals) → has globals x ≡ true → byte < global_size p x
       → IsAmong (block_for plan u) (open_bytes (block_for plan u).size (region_bytes p globals)) ((block_for plan u).base + offset_in_region p globals x + byte)
   byte_held u globals x byte e h l =
       let among = (laid p aligns globals).among x h in

@@ -1,4 +1,4 @@
--- Of two blocks of flash one stands behind the other.
+-- One of two blocks of flash stands behind the other.
 use Rattle.std.proofs.Common.{◌≡◌, ◌≢◌, ℕ, zero, suc, ◌+◌, ◌<◌, ◌≤◌, ◌⊎◌, inl, inr, Bool, List, [], ◌∷◌, length, get_or, take, sum, nat_lt, nat_eq, refl, sym, ap, ◌∙◌, ltb-true, lt-ltb, eq-eqb, eqb-true, arith}
 use Rattle.std.specs.Prelude.{filter}
 use Rattle.std.proofs.lemmas.List.{get_or-take, length-take}
@@ -25,7 +25,7 @@ module _ (xs : List ℕ) where
       let own = with_next (λ s. nat_eq s v) xs j l (eq-eqb v v refl) in
       omega arith
 
-  -- of equal ones the earlier does
+  -- the earlier of two equal blocks stands before the other
   earlier_first : (j k : ℕ) → j < k → k < length xs → get_or xs j 0 ≡ get_or xs k 0 → bytes_before xs j + get_or xs j 0 ≤ bytes_before xs k
   unfolding bytes_before
   earlier_first j k l h e =
@@ -40,7 +40,7 @@ module _ (xs : List ℕ) where
       let same = ap (λ v. sum (filter (λ s. nat_eq s v) (take j xs))) e in
       omega arith
 
-  -- so no two stand at the same place
+  -- no two stand at the same place
   pub one_first : (j k : ℕ) → j < length xs → k < length xs → j ≢ k → (bytes_before xs j + get_or xs j 0 ≤ bytes_before xs k) ⊎ (bytes_before xs k + get_or xs k 0 ≤ bytes_before xs j)
   one_first j k l h ne = ⊎_elim (λ lt. inr (larger_first k j h lt)) (λ le. ⊎_elim (λ lt. inl (larger_first j k l lt)) (λ ge. equal (omega arith)) (cases_lt (get_or xs k 0) (get_or xs j 0))) (cases_lt (get_or xs j 0) (get_or xs k 0))
     where

@@ -6,7 +6,7 @@ use Rattle.std.proofs.lemmas.Bool.{cases_lt}
 use mathlib.Core.Logic.{⊎_elim}
 use Rattle.plan_model.specs.declared.plan.Sizes.{Sizes}
 use Rattle.plan_model.specs.Choices.{greatest}
-use Rattle.plan_model.specs.Blocks.{block}
+use Rattle.plan_model.specs.Blocks.{block_size_for}
 use Rattle.plan_model.specs.FlashPlacement.{flash_blocks, code_blocks, tables_block}
 use Rattle.base_ranges.specs.Ranges.{IsPowerBetween}
 use Rattle.base_laws.specs.Lists.{Each}
@@ -22,18 +22,18 @@ mebibyte = record { exponent = 20; is = refl }
 
 -- ---- blocks
 
-pub block_is_power : (n : ℕ) → IsPower (block n)
+pub block_is_power : (n : ℕ) → IsPower (block_size_for n)
 block_is_power n = by (block_found n)
   where
-    by : (IsPowerBetween 5 32 (block n) × (n ≤ block n)) ⊎ (block n ≡ 2 ^ 32) → IsPower (block n)
+    by : (IsPowerBetween 5 32 (block_size_for n) × (n ≤ block_size_for n)) ⊎ (block_size_for n ≡ 2 ^ 32) → IsPower (block_size_for n)
     by (inl h) = record { exponent = h.0.0; is = h.0.3 }
     by (inr e) = record { exponent = 32; is = e }
 
 -- no block is empty
-pub block_positive : (n : ℕ) → 0 < block n
+pub block_positive : (n : ℕ) → 0 < block_size_for n
 block_positive n = let q = block_is_power n in let e = q.is in let some = pow_pos q.exponent in omega arith
 
-codes_are_powers : (ns : List ℕ) → Each IsPower (map block ns)
+codes_are_powers : (ns : List ℕ) → Each IsPower (map block_size_for ns)
 codes_are_powers [] = tt
 codes_are_powers (n ∷ ns) = (block_is_power n, codes_are_powers ns)
 
@@ -51,7 +51,7 @@ greatest_from m (x ∷ xs) h e = greatest_from (max m x) xs (inr (greater m x h 
 
 tables_are_power : (s : Sizes) → IsPower (tables_block s)
 tables_are_power s =
-    let b = block s.tables in
+    let b = block_size_for s.tables in
     let g = greatest (code_blocks s) in
     ⊎_elim
     (λ (e : g ≡ 0). let same : b ≡ max b g = omega arith in subst IsPower same (block_is_power s.tables))

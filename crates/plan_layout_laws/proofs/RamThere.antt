@@ -51,7 +51,7 @@ has_ordered u before [] h = h
 has_ordered u before (b ∷ bs) (inl e) = has_placed u before b (in_order before bs) (inl e)
 has_ordered u before (b ∷ bs) (inr h) = has_placed u before b (in_order before bs) (inr (has_ordered u before bs h))
 
--- ---- so it is found
+-- ---- such a block is found
 
 same_itself : (u : RamUse) → same_use u u ≡ true
 same_itself ForStack = refl

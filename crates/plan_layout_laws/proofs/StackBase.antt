@@ -7,7 +7,7 @@ use Rattle.plan_model.specs.declared.graph.Final.{Final}
 use Rattle.plan_model.specs.declared.plan.Board.{Board}
 use Rattle.plan_model.specs.declared.plan.Lowest.{Lowest}
 use Rattle.plan_model.specs.declared.plan.Lowest.TheVariants.{Largest, Stack}
-use Rattle.plan_model.specs.Blocks.{block, region_bytes}
+use Rattle.plan_model.specs.Blocks.{block_size_for, region_bytes}
 use Rattle.plan_model.specs.Lists.{numbers_below, placed}
 use Rattle.plan_model.specs.RamBlocks.{ForStack, ForMonitor, ForRegion, ForUnwritten, RamBlock, full_block, region_block, unwritten_block, other_blocks, ram_blocks, falling}
 use Rattle.plan_model.specs.RamPlacement.{Ram, PlacedBlock, no_tail, tail_for, base_in, spot_at, with_block, with_block_by, empty_ram, stack_first, ram_by, ram_of}
@@ -63,7 +63,7 @@ module _ (p : Program) (f : Final) (b : Board) where
     unwritten_small [] e = tt
     unwritten_small (x ∷ xs) e =
         let some : 0 < length f.unwritten = subst (λ (ys : List ℕ). 0 < length ys) (sym e) (omega arith) in
-        (subst (λ (ys : List ℕ). block (region_bytes p ys) ≤ b.stack) e (largest ForUnwritten some), tt)
+        (subst (λ (ys : List ℕ). block_size_for (region_bytes p ys) ≤ b.stack) e (largest ForUnwritten some), tt)
 
     others_small : Each IsSmall (other_blocks p f)
     others_small =

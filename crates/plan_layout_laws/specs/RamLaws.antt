@@ -11,11 +11,11 @@ use Rattle.plan_model.specs.Regions.{region_at}
 use Rattle.plan_model.specs.RamBlocks.{RamUse, ForStack, ForMonitor, ForRegion, ForUnwritten}
 use Rattle.plan_model.specs.Placement.{plan_of, region_spot, no_spot}
 
--- how many bytes of a block its open eighths have: from 256 bytes on those that begin before the end of so many bytes
+-- the bytes of a block's open eighths: from a block of 256 bytes on, the eighths that begin before the end of the bytes that it holds
 abbrev pub open_bytes : (size bytes : ℕ) → ℕ
 open_bytes size bytes = if has_eighths size && nat_lt (open_eighths size bytes) 8 then size / 8 * open_eighths size bytes else size
 
--- an address in so many bytes from a block's base on
+-- an address among the first `bytes` bytes of a block
 abbrev pub IsAmong : Spot → (bytes address : ℕ) → Type 0
 IsAmong s n x = (s.base ≤ x) × (x < s.base + n)
 

@@ -7,7 +7,7 @@ use Rattle.plan_model.specs.declared.plan.Sizes.{Sizes}
 use Rattle.plan_model.specs.declared.plan.Spot.{Spot}
 use Rattle.plan_model.specs.declared.plan.Plan.{Plan}
 use Rattle.plan_model.specs.Boards.{IsBoard}
-use Rattle.plan_model.specs.Blocks.{block, region_bytes}
+use Rattle.plan_model.specs.Blocks.{block_size_for, region_bytes}
 use Rattle.plan_model.specs.Regions.{region_at}
 use Rattle.plan_model.specs.RamBlocks.{RamUse, ForStack, ForMonitor, ForRegion, ForUnwritten}
 use Rattle.plan_model.specs.Placement.{Fits, plan_of, region_spot, no_spot}
@@ -37,8 +37,8 @@ HasBlock f ForUnwritten = 0 < length f.unwritten
 abbrev pub block_bytes : Program → Final → Board → RamUse → ℕ
 block_bytes p f b ForStack = b.stack
 block_bytes p f b ForMonitor = block_size
-block_bytes p f b (ForRegion r) = block (region_bytes p (region_at f.regions r).globals)
-block_bytes p f b ForUnwritten = block (region_bytes p f.unwritten)
+block_bytes p f b (ForRegion r) = block_size_for (region_bytes p (region_at f.regions r).globals)
+block_bytes p f b ForUnwritten = block_size_for (region_bytes p f.unwritten)
 
 -- a plan has a block for each use
 abbrev pub RamIsThere : Type 0

@@ -5,7 +5,7 @@ use Rattle.std.specs.Option.{option_or}
 use Rattle.std.proofs.lemmas.List.Elements.{filter_more}
 use Rattle.std.proofs.lemmas.List.Folds.{find-append}
 
--- none so far, and the next one passes both tests
+-- none before it, and the next one passes both tests
 pub wide_here : {X : Type 0} (p q : X → Bool) (xs : List X) (i : ℕ) (d : X) → i < length xs → find p (filter q (take i xs)) ≡ None → q (get_or xs i d) ≡ true → p (get_or xs i d) ≡ true
     → find p (filter q xs) ≡ Some (get_or xs i d)
 wide_here p q [] i d l n e f = absurd (omega arith)

@@ -1,4 +1,4 @@
-//! The limits of what is compiled, tested.
+//! The test of the limits of what is compiled.
 #![tactic(auto)]
 
 ghost use Rattle.std.specs.Prelude.{◌≡◌, ◌-◌, ◌^◌, length, min, option_map};
@@ -6,7 +6,7 @@ ghost use Rattle.plan_model.specs.CompileLimits.{first_passed, wide_site};
 ghost use Rattle.plan_model.specs.Crossing as crossing;
 ghost use Rattle.plan_limits.specs.Told.{in_32_bits};
 
-use plan_crossings::{crosses, lent};
+use plan_crossings::{crosses, lent_locals};
 use plan_model::groups::Groups;
 use plan_model::limits::{COMPARTMENT_LIMIT, LENT_LIMIT, LimitKind, SITE_LIMIT, TARGET_LIMIT};
 use plan_model::needs::Needs;
@@ -46,13 +46,13 @@ fn counted(count: usize) -> u32
 /// The first limit that is passed, with its count. Takes no memory.
 ///
 /// A count that passes 32 bits, as that of no checked firmware does, is told as the greatest number of 32 bits.
-pub fn passed(needs: &Needs, groups: &Groups) -> Option<(LimitKind, u32)>
+pub fn passed_limit(needs: &Needs, groups: &Groups) -> Option<(LimitKind, u32)>
     ensures { result ≡ option_map in_32_bits (first_passed needs.now groups.now) }
 {
     if groups.count > COMPARTMENT_LIMIT {
         return Some((LimitKind::Compartments, groups.count));
     }
-    let lent = lent(needs, groups).len();
+    let lent = lent_locals(needs, groups).len();
     if lent > LENT_LIMIT {
         return Some((LimitKind::Lent, counted(lent)));
     }

@@ -51,7 +51,7 @@ few n g h =
       targets = found_none (crossing_sites n g) (unmapped (λ (s : SiteNeed). (Targets, length s.targets)) (wide_site n g) d.0);
     }
 
--- so many targets together
+-- the targets of all sites together
 pub few_targets : (ss : List SiteNeed) → Each (λ (s : SiteNeed). length s.targets ≤ 64) ss → target_count ss ≤ 64 * length ss
 few_targets [] h = omega arith
 few_targets (s ∷ ss) h = let a = h.0 in let b = few_targets ss h.1 in let e = sum_by-cons (λ (x : SiteNeed). length x.targets) s ss in omega (arith, a, b, e)

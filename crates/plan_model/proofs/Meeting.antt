@@ -12,7 +12,7 @@ met d base size a lo hi x =
     let h = x.1 in
     ap₂ (λ (p q : Bool). p && q) (lt-ltb base (d.base + d.size) (omega (arith, lo, h))) (lt-ltb d.base (base + size) (omega (arith, l, hi)))
 
--- where a test passes for none, it does not for the first, and for none behind it
+-- a test that passes for no item passes neither for the first nor for one behind it
 fails_first : {X : Type 0} (p : X → Bool) (x : X) (xs : List X) → position p (x ∷ xs) ≡ None → p x ≡ false
 fails_first p x xs e = grind (arith)
 

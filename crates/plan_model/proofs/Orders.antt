@@ -150,7 +150,7 @@ module _ {X : Type 0} (lt : X → X → Bool) (weak : IsStrictWeakOrder lt) wher
       let rest : ys ≡ zs = only ys zs r.1 s.1 (λ x. filter_rest (ties lt x) y ys zs (subst (λ w. filter (ties lt x) (y ∷ ys) ≡ filter (ties lt x) (w ∷ zs)) (sym same) (h x))) in
       cc
 
-  -- so a list that is sorted and stable is the list in order
+  -- a list that is sorted and stable is the list in order
   pub sorted_is_in_order : (xs ys : List X) → IsSortedBy lt ys → IsStableBy lt xs ys → ys ≡ in_order lt xs
   sorted_is_in_order xs ys sorted stable =
       only ys (in_order lt xs) (rising_of lt ys (sorted_far lt weak ys sorted)) (in_order_rises xs) (λ x. stable x ∙ sym (in_order_keeps x xs))

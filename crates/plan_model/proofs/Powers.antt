@@ -1,4 +1,4 @@
--- The least power of two that passes a test, and the block that holds so many bytes.
+-- The least power of two that passes a test, and the block that holds n bytes.
 use Rattle.std.proofs.Common.{◌≡◌, ℕ, zero, suc, ◌+◌, ◌/◌, ◌^◌, ◌≤◌, ◌<◌, ◌⊎◌, inl, inr, Bool, true, false, cond, List, Some, max, nat_le, refl, lit<, sym, ap, subst, ◌∙◌, arith}
 use Rattle.std.specs.Prelude.{find, map, unwrap_or}
 use Rattle.std.specs.List.{range_with_len}
@@ -9,13 +9,13 @@ use Rattle.std.proofs.lemmas.Bool.{cases_lt, leb-true, le-leb}
 use mathlib.Core.Logic.{⊎_elim}
 use Rattle.base_ranges.specs.Ranges.{IsPowerBetween}
 use Rattle.plan_model.specs.Covers.{powers_of_two, least_power}
-use Rattle.plan_model.specs.Blocks.{block}
+use Rattle.plan_model.specs.Blocks.{block_size_for}
 
 -- the powers from 2 ^ a on, n of them
 abbrev powers : (a n : ℕ) → List ℕ
 powers a n = map (λ k. 2 ^ k) (range_with_len a n)
 
--- where the first power that passes is 2 ^ m
+-- the first power that passes, where it is 2 ^ m
 find_first : (test : ℕ → Bool) (a n m : ℕ) → a ≤ m → m < a + n → test (2 ^ m) ≡ true → ((i : ℕ) → a ≤ i → i < m → test (2 ^ i) ≡ false)
     → find test (powers a n) ≡ Some (2 ^ m)
 find_first test a zero m l h p f = absurd (omega arith)
@@ -34,16 +34,16 @@ unfolding least_power
 least_power_is test m l h p f = ap (λ o. unwrap_or o (2 ^ 32)) (find_first test 5 28 m l (omega arith) p f)
 
 -- the block of n bytes is 2 ^ m where that is the least power that holds them
-pub block_is : (n m : ℕ) → 5 ≤ m → m ≤ 32 → n ≤ 2 ^ m → ((i : ℕ) → 5 ≤ i → i < m → 2 ^ i < n) → block n ≡ 2 ^ m
-unfolding block
+pub block_is : (n m : ℕ) → 5 ≤ m → m ≤ 32 → n ≤ 2 ^ m → ((i : ℕ) → 5 ≤ i → i < m → 2 ^ i < n) → block_size_for n ≡ 2 ^ m
+unfolding block_size_for
 block_is n m l h holds below = least_power_is (nat_le n) m l h (le-leb n (2 ^ m) holds) (λ i u v. fails i (nat_le n (2 ^ i)) refl (below i u v))
   where
     fails : (i : ℕ) (b : Bool) → nat_le n (2 ^ i) ≡ b → 2 ^ i < n → nat_le n (2 ^ i) ≡ false
     fails i true e lt = let le = leb-true n (2 ^ i) e in absurd (omega arith)
     fails i false e lt = e
 
--- so it is what `next_power_of_two` gives of n and 32
-pub next_power_is_block : (n p : ℕ) → n ≤ 2 ^ 32 → IsPowerOfTwo p → max n 32 ≤ p → p / 2 < max n 32 → block n ≡ p
+-- the size of the block for n bytes is what `next_power_of_two` gives of n and 32
+pub next_power_is_block : (n p : ℕ) → n ≤ 2 ^ 32 → IsPowerOfTwo p → max n 32 ≤ p → p / 2 < max n 32 → block_size_for n ≡ p
 next_power_is_block n p small (k, is) least most =
     block_is n k (⊎_elim (λ lt. absurd (too_small lt)) (λ le. le) (cases_lt k 5)) (⊎_elim (λ lt. absurd (too_large lt)) (λ le. le) (cases_lt 32 k)) (omega arith) below ∙ sym is
   where
@@ -76,8 +76,8 @@ found test a (suc n) h = by (test (2 ^ a)) refl (found test (a + 1) n (omega (ar
     by false e ih = lower test a _ ih
 
 -- it is a power of two from 32 on, and all that is to lie there has room; or it is 2 ^ 32
-pub block_found : (n : ℕ) → (IsPowerBetween 5 32 (block n) × (n ≤ block n)) ⊎ (block n ≡ 2 ^ 32)
-unfolding block least_power
+pub block_found : (n : ℕ) → (IsPowerBetween 5 32 (block_size_for n) × (n ≤ block_size_for n)) ⊎ (block_size_for n ≡ 2 ^ 32)
+unfolding block_size_for least_power
 block_found n = go (found (nat_le n) 5 28 (lit< tt))
   where
     go : Found (nat_le n) 5 (unwrap_or (find (nat_le n) powers_of_two) (2 ^ 32))
@@ -85,18 +85,18 @@ block_found n = go (found (nat_le n) 5 28 (lit< tt))
     go (inl h) = inl (h.0, leb-true n (unwrap_or (find (nat_le n) powers_of_two) (2 ^ 32)) h.1)
     go (inr e) = inr e
 
--- where it is below 2 ^ 32
-pub small_block : (n : ℕ) → block n < 2 ^ 32 → IsPowerBetween 5 32 (block n) × (n ≤ block n)
+-- a block that is smaller than 2 ^ 32 bytes
+pub small_block : (n : ℕ) → block_size_for n < 2 ^ 32 → IsPowerBetween 5 32 (block_size_for n) × (n ≤ block_size_for n)
 small_block n small = by (block_found n)
   where
-    by : (IsPowerBetween 5 32 (block n) × (n ≤ block n)) ⊎ (block n ≡ 2 ^ 32) → IsPowerBetween 5 32 (block n) × (n ≤ block n)
+    by : (IsPowerBetween 5 32 (block_size_for n) × (n ≤ block_size_for n)) ⊎ (block_size_for n ≡ 2 ^ 32) → IsPowerBetween 5 32 (block_size_for n) × (n ≤ block_size_for n)
     by (inl h) = h
     by (inr e) = absurd (omega (arith, small, e))
 
--- and of so few bytes
-pub block_holds : (n : ℕ) → n ≤ 2 ^ 32 → n ≤ block n
+-- the block for at most 2 ^ 32 bytes
+pub block_holds : (n : ℕ) → n ≤ 2 ^ 32 → n ≤ block_size_for n
 block_holds n few = by (block_found n)
   where
-    by : (IsPowerBetween 5 32 (block n) × (n ≤ block n)) ⊎ (block n ≡ 2 ^ 32) → n ≤ block n
+    by : (IsPowerBetween 5 32 (block_size_for n) × (n ≤ block_size_for n)) ⊎ (block_size_for n ≡ 2 ^ 32) → n ≤ block_size_for n
     by (inl h) = h.1
     by (inr e) = omega (arith, few, e)

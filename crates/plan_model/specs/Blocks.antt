@@ -7,9 +7,9 @@ use Rattle.ir_model.specs.Resolved.{Program, global_at}
 use Rattle.plan_model.specs.Regions.{global_size}
 use Rattle.plan_model.specs.Covers.{least_power}
 
--- the least power of two that is at least n and at least 32
-unfoldable pub block : ℕ → ℕ
-block n = least_power (nat_le n)
+-- the size of the block for n bytes: the smallest power of two, from 32 on, that is not below n
+unfoldable pub block_size_for : ℕ → ℕ
+block_size_for n = least_power (nat_le n)
 
 -- ---- the globals of a region
 
@@ -45,7 +45,7 @@ has_eighths size = nat_le 256 size
 abbrev pub quotient_up : (n d : ℕ) → ℕ
 quotient_up n d = (n + (d - 1)) / d
 
--- how many eighths of a block begin before the end of so many bytes
+-- how many eighths of a block begin before the end of the bytes that it holds
 unfoldable pub open_eighths : (size bytes : ℕ) → ℕ
 open_eighths size bytes = quotient_up bytes (size / 8)
 

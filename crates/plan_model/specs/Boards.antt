@@ -14,7 +14,7 @@ pub record IsMemorySize (n : ℕ) : Type 0 where
   pub blocks : n % ram_unit ≡ 0
 
 -- flash begins at a multiple of a MiB from 0 to 0x1FE00000, RAM at one from 0x20000000 to 0x3FF00000, so that each has its own
--- MiB; the stack is a power of two from 512 to 65,536; and at most 64 ranges of devices are denied
+-- MiB; the bytes of the stack are a power of two, at least 512 and at most 65,536; and a board denies at most 64 ranges of devices
 pub record IsBoard (b : Board) : Type 0 where
   pub flash_aligned : b.flash_base % memory_limit ≡ 0
   pub flash_highest : b.flash_base ≤ last_flash_base

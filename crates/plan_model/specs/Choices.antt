@@ -2,7 +2,7 @@
 use Rattle.std.specs.Prelude.{ℕ, List, [], ◌∷◌, ◌++◌, map, max, position, Option, Some, None, nat_eq, nat_lt}
 use Rattle.std.specs.List.{fold, best_of}
 
--- two numbers of a list, the first standing before the second
+-- two numbers of a list, of which the first stands before the second
 pub record Pair : Type 0 where
   pub first : ℕ
   pub second : ℕ

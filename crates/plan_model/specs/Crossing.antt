@@ -34,10 +34,10 @@ crossings_in n g f = map (crosses g) (sites_in n f)
 abbrev pub site_numbers_in : Needs → Groups → (func : ℕ) → List (Option ℕ)
 site_numbers_in n g f = map (λ (s : SiteNeed). site_number n g f s.block s.inst) (sites_in n f)
 
--- how many targets these sites have together, those in their own compartments included
+-- how many targets these sites have together, with those in their own compartments
 abbrev pub target_count : List SiteNeed → ℕ
 target_count ss = sum_by (λ (s : SiteNeed). length s.targets) ss
 
--- how many targets the sites before a number have: where the targets of that site begin, one site's standing behind another's
+-- how many targets the sites before a number have. The targets of that site begin there, as the targets of sites stand one behind another
 abbrev pub first_target : List SiteNeed → (number : ℕ) → ℕ
 first_target ss k = target_count (take k ss)

@@ -7,7 +7,7 @@ use Rattle.plan_model.specs.declared.groups.FuncFacts.{FuncFacts}
 use Rattle.plan_model.specs.Lists.{numbers_below, has}
 use Rattle.plan_model.specs.Needs.{need_of}
 
--- the functions that have this one among their callees, without the function itself
+-- each other function that has this one as a callee
 abbrev pub callers_of : Needs → (func : ℕ) → List ℕ
 callers_of n f = filter (λ h. not (nat_eq h f) && has (need_of n h).callees f) (numbers_below (length n.funcs))
 

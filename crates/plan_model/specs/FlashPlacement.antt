@@ -3,15 +3,15 @@ use Rattle.std.specs.Prelude.{ℕ, suc, ◌+◌, List, ◌∷◌, map, filter, t
 use Rattle.plan_model.specs.declared.plan.Sizes.{Sizes}
 use Rattle.plan_model.specs.declared.plan.Spot.{Spot}
 use Rattle.plan_model.specs.Choices.{greatest, first_greatest}
-use Rattle.plan_model.specs.Blocks.{block}
+use Rattle.plan_model.specs.Blocks.{block_size_for}
 
 -- the sizes of the compartments' code blocks
 abbrev pub code_blocks : Sizes → List ℕ
-code_blocks s = map block s.code
+code_blocks s = map block_size_for s.code
 
 -- the size of the tables' block: no code block is larger, so it stands at the base of flash, where the vectors have to be
 abbrev pub tables_block : Sizes → ℕ
-tables_block s = max (block s.tables) (greatest (code_blocks s))
+tables_block s = max (block_size_for s.tables) (greatest (code_blocks s))
 
 -- the tables' block, then one for the code of each compartment
 unfoldable pub flash_blocks : Sizes → List ℕ

@@ -27,16 +27,16 @@ is_in_mask n mask f l = is_set mask (position (is_local f l) n.lendable)
 abbrev pub is_covered : Program → Final → (compartment periph : ℕ) → Bool
 is_covered p f c q = list_any (is_inside (cover_of p q)) (get_or f.covers c [])
 
--- the globals of the data regions among whose writers the compartment stands, the peripherals inside its covers, and the
--- lendable locals in its mask
+-- what a compartment may write: a global whose data region has it among its writers, a peripheral that one of its covers contains,
+-- and a lendable local whose bit is set in its mask
 unfoldable pub may_write : Program → Needs → Final → (compartment : ℕ) → ObjId → Bool
 may_write p n f c (Global x) = list_any (λ (r : DataRegion). has r.writers c && has r.globals x) f.regions
 may_write p n f c (Periph q) = is_covered p f c q
 may_write p n f c (Local g l) = is_in_mask n (get_or f.masks c 0) g l
 may_write p n f c (Func g) = false
 
--- on a closed board the globals of all its data regions, the same peripherals, and the lendable locals in its read mask; beside
--- these objects it may read all of flash
+-- what a compartment may read on a closed board: a global of a data region that it uses, a peripheral that it may write, and a
+-- lendable local whose bit is set in its read mask; beside these objects it may read all of flash
 unfoldable pub may_read : Program → Needs → Final → (compartment : ℕ) → ObjId → Bool
 may_read p n f c (Global x) = list_any (λ (r : DataRegion). is_user c r && has r.globals x) f.regions
 may_read p n f c (Periph q) = is_covered p f c q

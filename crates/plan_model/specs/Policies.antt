@@ -33,7 +33,7 @@ moved_to groups f (Some g) = set groups f g
 abbrev pub move : (groups : List ℕ) → FuncFacts → List ℕ
 move groups f = if is_empty f.periphs then moved_to groups f.index (common_group groups f.callers) else groups
 
--- from the groups of `filename` on the functions are taken once, in byte order of their names
+-- the groups of `filename`, after the move of each function in its turn, by the byte order of names
 unfoldable pub optimized_groups : List FuncFacts → List ℕ
 optimized_groups fs = fold move (filename_groups fs) (by_name fs)
 

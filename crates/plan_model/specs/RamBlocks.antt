@@ -6,7 +6,7 @@ use Rattle.plan_model.specs.declared.graph.DataRegion.{DataRegion}
 use Rattle.plan_model.specs.declared.graph.Final.{Final}
 use Rattle.plan_model.specs.Lists.{numbers_below, in_order}
 use Rattle.plan_model.specs.Regions.{region_at}
-use Rattle.plan_model.specs.Blocks.{block, region_bytes}
+use Rattle.plan_model.specs.Blocks.{block_size_for, region_bytes}
 
 -- what a block is for
 pub data RamUse : Type 0 where
@@ -41,7 +41,7 @@ full_block u n = record { use_of = u; bytes = n; size = n }
 
 -- a block of globals
 abbrev pub globals_block : Program → RamUse → (globals : List ℕ) → RamBlock
-globals_block p u xs = record { use_of = u; bytes = region_bytes p xs; size = block (region_bytes p xs) }
+globals_block p u xs = record { use_of = u; bytes = region_bytes p xs; size = block_size_for (region_bytes p xs) }
 
 -- that of a data region
 abbrev pub region_block : Program → List DataRegion → (region : ℕ) → RamBlock

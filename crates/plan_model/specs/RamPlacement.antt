@@ -1,5 +1,6 @@
--- Where the blocks of RAM lie: in falling order of size, one behind the other from the base of RAM, but for the blocks of regions
--- that find room in the tail of another region's block. A board may ask for the stack at the base; the others then stand behind it.
+-- The places of the blocks of RAM. From the base of RAM on each block stands behind the one before it, by falling size; but a region's
+-- block stands in the tail of another region's block where it has room there. A board may ask for the stack at the base; the others
+-- then stand behind it.
 use Rattle.std.specs.Prelude.{ℕ, ◌+◌, ◌*◌, ◌/◌, Bool, ◌&&◌, List, [], ◌∷◌, ◌++◌, map, get_or, set, Option, Some, None, position, find, option_map, option_and_then, max, if◌then◌else◌, nat_lt, nat_le}
 use Rattle.std.specs.List.{fold}
 use Rattle.ir_model.specs.Layout.{rounded_up}
@@ -12,10 +13,10 @@ use Rattle.plan_model.specs.declared.plan.Lowest.TheVariants.{Largest, Stack}
 use Rattle.plan_model.specs.declared.plan.Spot.{Spot}
 use Rattle.plan_model.specs.Choices.{first_of, first_greatest}
 use Rattle.plan_model.specs.Regions.{region_at, users}
-use Rattle.plan_model.specs.Blocks.{block, region_bytes, has_eighths, open_eighths}
+use Rattle.plan_model.specs.Blocks.{block_size_for, region_bytes, has_eighths, open_eighths}
 use Rattle.plan_model.specs.RamBlocks.{RamUse, ForStack, RamBlock, holds_globals, same_use, full_block, other_blocks, ram_blocks, falling}
 
--- the end of a block whose subregions are taken out, so that another region may stand there
+-- the end of a block whose subregions are taken out; another region may stand there
 pub record Tail : Type 0 where
   pub from : ℕ
   pub to : ℕ
@@ -44,7 +45,7 @@ tail_of base b =
     then record { from = base + b.size / 8 * open_eighths b.size b.bytes; to = base + b.size } ∷ []
     else []
 
--- the base is the tail's beginning rounded up to the block's size, and the end is at most the tail's end
+-- a block of this size has room in a tail: it begins at the first multiple of its size in the tail, and ends no later than the tail
 abbrev pub fits : (size : ℕ) → Tail → Bool
 fits size t = nat_le (rounded_up t.from size + size) t.to
 
@@ -58,7 +59,7 @@ tail_for ts b = if holds_globals b.use_of then position (fits b.size) ts else No
 abbrev pub spot_at : (base : ℕ) → RamBlock → PlacedBlock
 spot_at base b = record { use_of = b.use_of; spot = record { base = base; size = b.size } }
 
--- a block behind those that were placed so before it
+-- a block behind those that were placed outside tails before it
 abbrev pub with_block_behind : (ram : ℕ) → Ram → RamBlock → Ram
 with_block_behind ram m b =
     record {
@@ -129,8 +130,8 @@ ram_needed p f b = (ram_of p f b).used
 
 -- the sizes of the data regions' blocks
 abbrev pub region_sizes : Program → List DataRegion → List ℕ
-region_sizes p rs = map (λ (r : DataRegion). block (region_bytes p r.globals)) rs
+region_sizes p rs = map (λ (r : DataRegion). block_size_for (region_bytes p r.globals)) rs
 
--- the compartment that a refusal names: the lowest user of the first of the data regions with the largest block, if there is one
+-- the compartment that a refusal names, if there is one: the lowest user of that data region whose block is largest, of several the first
 abbrev pub ram_named : Program → Final → Option ℕ
 ram_named p f = option_and_then (λ r. first_of (users (region_at f.regions r))) (first_greatest (region_sizes p f.regions))

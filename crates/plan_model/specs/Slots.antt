@@ -24,7 +24,7 @@ pub record SlotUse : Type 0 where
   pub srd : ℕ
   pub rights : Rights
 
--- a region is read-only for a user that is no writer
+-- a writer of a region may store in it and load from it, and another user may only load
 abbrev pub data_rights : data_region.DataRegion → (compartment : ℕ) → Rights
 data_rights r c = if has r.writers c then Ram else Background
 
@@ -53,7 +53,7 @@ slot_uses p f l c = map (data_slot p f l c) (regions_used f.regions c) ++ map co
 abbrev pub free_slot : (number : ℕ) → Region
 free_slot n = record { rbar = 2 ^ 4 + n; rasr = 0 }
 
--- so many slots, from a number on, of which the last are free
+-- `count` slots, from a number on; those behind the uses are free
 abbrev pub slots_from : (number count : ℕ) → List SlotUse → List Region
 slots_from n zero us = []
 slots_from n (suc k) [] = free_slot n ∷ slots_from (suc n) k []

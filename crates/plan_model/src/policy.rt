@@ -1,10 +1,10 @@
-//! Policies: by which the functions of a firmware are put into compartments.
+//! Policies, by which the functions of a firmware are put into compartments.
 
 ghost use Rattle.std.specs.Prelude.{◌≡◌, IfSome, IfNone};
 ghost use Rattle.plan_model.specs.declared.policy.Policy.{Policy as ThePolicy};
 ghost use Rattle.plan_model.specs.PolicyWords.{policy_word};
 
-/// By what the functions of a firmware are put into compartments.
+/// A policy, by which the functions of a firmware are put into compartments.
 #[derive(Clone, Copy)]
 pub enum Policy {
     /// Each file with functions is a compartment.

@@ -29,7 +29,7 @@ module _ {X : Type 0} (same : X → X → Bool) where
       ∙ (ap (λ zs. x ∷ zs) (filter-append (λ z. not (same x z)) (distinct same xs) (cond (list_any (λ x. same x y) xs) [] (y ∷ [])))
       ∙ ap (λ zs. x ∷ filter (λ z. not (same x z)) (distinct same xs) ++ zs) (filter_last x y (list_any (λ x. same x y) xs)))
 
-  -- a test of being the same as an item finds one of the different items just where it finds one of all
+  -- a test for the items that are the same as one finds one of the different items just where it finds one of all
   pub any_distinct : (xs : List X) (y : X) → ((x z : X) → same x z ≡ true → same z y ≡ true → same x y ≡ true) → list_any (λ x. same x y) (distinct same xs) ≡ list_any (λ x. same x y) xs
   any_distinct [] y t = refl
   any_distinct (x ∷ xs) y t = by (same x y) refl (any_distinct xs y t)

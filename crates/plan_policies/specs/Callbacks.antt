@@ -6,8 +6,9 @@ use Rattle.std.specs.Borrow.{Bor}
 use Rattle.ir_model.specs.TextLimits.{function_limit}
 use Rattle.plan_model.specs.declared.groups.FuncFacts.{FuncFacts}
 
--- by when it may be called, and by which answers it gives for facts: for the facts of so many functions it may be called, its
--- answers are below a bound, and it answers equal facts equally; both numbers are from 1 to that of the functions that a firmware may have
+-- the callback, by when it may be called, and by which answers it gives for facts: it may be called for the facts of `functions`
+-- functions, its answers are below `count`, and it answers equal facts equally; both numbers are from 1 to that of the functions that a
+-- firmware may have
 pub record IsGrouping (functions count : ℕ) (may : Bor FuncFacts → Type 0) (answers : FuncFacts → ℕ → Type 0) : Type 0 where
   pub some_functions : 0 < functions
   pub few_functions : functions ≤ function_limit

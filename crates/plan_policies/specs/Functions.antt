@@ -13,7 +13,7 @@ pub record AreFunctions (fs : List FuncFacts) : Type 0 where
   pub numbered : (k : ℕ) (d : FuncFacts) → k < length fs → (get_or fs k d).index ≡ k
   pub callers : All (HasCallersBelow (length fs)) fs
 
--- one of so many functions, with its callers
+-- one of `count` functions, with its callers
 pub record IsAmong (count : ℕ) (f : FuncFacts) : Type 0 where
   pub index : f.index < count
   pub callers : HasCallersBelow count f

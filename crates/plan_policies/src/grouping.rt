@@ -7,7 +7,7 @@ ghost use Rattle.plan_model.specs.Compartments.{compartments};
 ghost use Rattle.plan_policies.specs.Callbacks.{IsGrouping, AreAnswers};
 ghost use Rattle.plan_policies.specs.Functions.{AreFunctions};
 
-use crate::numbering::numbered;
+use crate::numbering::compartments_by_group;
 use plan_model::groups::{FuncFacts, Groups};
 use std::alloc::{AllocError, Global};
 
@@ -22,7 +22,7 @@ pub struct Grouping<F: Fn(&FuncFacts) -> u32> {
 }
 
 impl<F: Fn(&FuncFacts) -> u32> Grouping<F> {
-    /// A grouping of so many functions by a callback that answers numbers below `count`.
+    /// A grouping of `functions` functions by a callback that answers numbers below `count`.
     pub fn new(callback: F, functions: u32, count: u32) -> Grouping<F>
         requires { IsGrouping functions count (F.pre callback) (FnReturnsAt F.Fn callback) }
         ensures callback { result.callback ≡ callback }
@@ -82,5 +82,5 @@ pub fn groups<F: Fn(&FuncFacts) -> u32>(
     ensures { IfOk result (λ made. (groups : List ℕ) × AreAnswers (FnReturnsAt F.Fn grouping.now.callback) facts.now groups × (made ≡ compartments groups)) }
 {
     let groups = answers(alloc, grouping, facts)?;
-    numbered(alloc, &groups, grouping.count)
+    compartments_by_group(alloc, &groups, grouping.count)
 }

@@ -43,7 +43,11 @@ fn numbers(alloc: Global, used: &[bool]) -> Result<Vec<u32>, AllocError>
 /// # Errors
 ///
 /// There is no memory for them.
-pub(crate) fn numbered(alloc: Global, groups: &[u32], count: u32) -> Result<Groups, AllocError>
+pub(crate) fn compartments_by_group(
+    alloc: Global,
+    groups: &[u32],
+    count: u32,
+) -> Result<Groups, AllocError>
     requires { All (λ g. g < count) groups.now }
     ensures { IfOk result (λ made. made ≡ compartments groups.now) }
 {

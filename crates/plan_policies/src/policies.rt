@@ -77,7 +77,7 @@ fn move_one(groups: &mut Vec<u32>, facts: &FuncFacts)
     }
 }
 
-/// The groups of `filename`, changed: the functions are taken once, in byte order of their names, and one without peripherals
+/// The groups of `filename`, changed: each function has its turn once, by the byte order of names, and one without peripherals
 /// moves to the group in which all its callers stand at that moment, if there is one.
 ///
 /// # Errors

@@ -52,7 +52,7 @@ module _ (g : ℕ → Range) (t : ℕ → Bool) (b : ℕ) where
 -- ---- the ranges of a cover
 
 module _ (ws : List NumberedWindow) (d : Cover) where
-  -- where the range begins that has the address
+  -- the beginning of the range that has the address
   record Start (b : ℕ) : Type 0 where
     at : ℕ
     least : d.base ≤ at

@@ -1,4 +1,4 @@
-mod Told
+mod Pieces
 pub mod Growing
 mod Named
 mod Firsts

@@ -1,4 +1,4 @@
--- How a range of addresses is told that a firmware asks for and its board denies.
+-- The line of a range of addresses that a firmware asks for and its board denies.
 use Rattle.std.specs.Prelude.{ℕ, List, [], ◌++◌, map, codes, get_or}
 use Rattle.std.specs.Fmt.{decimal}
 use Rattle.ir_model.specs.Plain.{PlainFirmware}

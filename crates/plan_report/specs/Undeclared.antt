@@ -11,7 +11,7 @@ pub record Range : Type 0 where
   pub base : ℕ
   pub size : ℕ
 
--- the address is one of so many from a base on
+-- the address is one of the first `size` from a base on
 abbrev pub is_among : (base size address : ℕ) → Bool
 is_among b n a = nat_le b a && nat_lt a (b + n)
 
@@ -22,7 +22,7 @@ module _ (windows : List NumberedWindow) where
   abbrev pub is_declared : (address : ℕ) → Bool
   is_declared a = list_any (λ (w : NumberedWindow). is_among w.base w.size a) windows
 
-  -- how many of so many addresses come before the first that is declared
+  -- how many of `count` addresses come before the first declared one
   abbrev pub undeclared_from : (address count : ℕ) → ℕ
   undeclared_from a n = position_or_len is_declared (range_with_len a n)
 

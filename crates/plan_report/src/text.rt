@@ -64,7 +64,7 @@ impl Text {
         self.put(decimal_digits(number).as_slice())
     }
 
-    /// Puts so many hexadecimal digits of a number behind the bytes that are there.
+    /// Puts a number of hexadecimal digits of a value behind the bytes that are there.
     ///
     /// # Errors
     ///

@@ -5,7 +5,7 @@ use Rattle.ir_model.specs.Resolved.{Program}
 use Rattle.plan_model.specs.Regions.{global_size}
 use Rattle.plan_model.specs.Blocks.{aligned}
 
--- where one of them ends passes 32 bits
+-- the end of one of them passes 32 bits
 abbrev pub Passes : Program → (at : ℕ) → (globals : List ℕ) → Type 0
 Passes p at [] = ⊥
 Passes p at (x ∷ xs) =

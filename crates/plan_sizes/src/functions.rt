@@ -100,7 +100,7 @@ fn compartment_bytes(compartments: &[u32], all: &[u32], compartment: u32) -> Opt
     bytes_before(compartments, all, compartment, all.len())
 }
 
-/// The bytes of so many compartments.
+/// The bytes of the code of `count` compartments.
 pub(crate) fn code_bytes(
     alloc: Global,
     compartments: &[u32],

@@ -10,7 +10,7 @@ use crate::functions::{all_bytes, code_bytes};
 use crate::tables::table_bytes;
 use base_lists::ListVec;
 use ir_program::program::Program;
-use plan_crossings::{crossing_sites, lent};
+use plan_crossings::{crossing_sites, lent_locals};
 use plan_model::graph::Final;
 use plan_model::needs::{Needs, SiteNeed};
 use plan_model::plan::Sizes;
@@ -31,8 +31,8 @@ fn code_sizes(
     code_bytes(alloc, fin.groups.of.as_slice(), &all, fin.groups.count)
 }
 
-/// How many bytes the code of each compartment has, and the vectors, the monitor and its tables, on a board whose protection unit
-/// has so many slots.
+/// The bytes of each compartment's code, and of the vectors, the monitor and its tables, on a board whose protection unit has
+/// `slots` slots.
 ///
 /// # Errors
 ///
@@ -49,7 +49,7 @@ pub fn sizes(
     ensures { IfOk result (λ sizes. sizes ≡ sizes_of (program_of program.now) needs.now fin.now slots) }
 {
     let sites = crossing_sites(alloc, needs, &fin.groups)?;
-    let lent = lent(needs, &fin.groups);
+    let lent = lent_locals(needs, &fin.groups);
     let Some(tables) = table_bytes(program, fin, &sites, lent, slots) else {
         return Err(AllocError);
     };

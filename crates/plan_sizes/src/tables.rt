@@ -1,4 +1,4 @@
-//! The bytes of the vectors, the monitor and its tables. None where a number takes more than 32 bits.
+//! The bytes of the vectors, the monitor and its tables. An answer is `None` if a number takes more than 32 bits.
 
 ghost use Rattle.std.specs.Prelude.{◌≡◌, ◌+◌, ◌*◌, ◌≤◌, length, IfSome};
 ghost use Rattle.ir_program.specs.Seen.{program_of};
@@ -33,7 +33,7 @@ fn initial_words(program: &Program, fin: &Final) -> Option<u32>
     Some(total)
 }
 
-/// So many bytes behind others, as many times as a count tells.
+/// The sum of some bytes and of `count` times `each` bytes.
 fn behind(bytes: u32, each: u32, count: usize) -> Option<u32>
     ensures { IfSome result (λ n. n ≡ bytes + each * count) }
 {

@@ -8,7 +8,7 @@ use code_effects::laws::{
     accesses, branches, calls, compartments, entry, functions, items, returns, runs,
     sources as set_registers,
 };
-use code_lower_laws::laws::typed;
+use code_lower_laws::laws::typed_functions;
 use code_model::laws::{compartments as placed, sites, sizes};
 use ir_laws::limits::windows;
 use ir_laws::runs::{
@@ -45,7 +45,7 @@ pub fn sources()
     cells();
     alignment();
     windows();
-    typed();
+    typed_functions();
     values();
     registers();
     contents();

@@ -90,7 +90,7 @@ pub(crate) fn put_limit(
     needs: &Needs,
     groups: &Groups,
 ) -> Result<()> {
-    let Some((kind, count)) = plan_limits::passed(needs, groups) else {
+    let Some((kind, count)) = plan_limits::passed_limit(needs, groups) else {
         return Ok(());
     };
     let word = match kind {

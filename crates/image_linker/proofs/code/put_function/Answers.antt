@@ -13,7 +13,7 @@ pub put_standing-requires-clause-fits : goal.put_standing-requires-clause-fits
 put_standing-requires-clause-fits c =
     let m = c.args.making.now in
     let g = func_at (program_in m) c.args.func in
-    subst (λ (q : Places). FuncFits q g) (sym c.in_ok-places.ensures) (function_fits m c.args.func c.requires.ready c.requires.there c.typed.ensures.fit)
+    subst (λ (q : Places). FuncFits q g) (sym c.in_ok-places.ensures) (function_fits m c.args.func c.requires.ready c.requires.there c.typed_functions.ensures.fit)
 
 pub put_standing-requires-clause-size : goal.put_standing-requires-clause-size
 put_standing-requires-clause-size c =

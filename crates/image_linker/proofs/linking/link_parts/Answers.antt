@@ -30,10 +30,10 @@ returns c =
     let sites_of : List (Bor SiteNeed) → List SiteNeed = λ xs. seen_sites xs in
     let es = ap sites_of c.deref.ensures.value ∙ c.in_ok-sites.ensures in
     let es_too = ap sites_of c.deref-2.ensures.value ∙ c.in_ok-sites.ensures in
-    let numbers = numbers_made _ n f _ _ c.in_ok-numbers.numbers es c.lent-lent.ensures c.in_ok-numbers.ensures.exact in
+    let numbers = numbers_made _ n f _ _ c.in_ok-numbers.numbers es c.lent_locals-lent.ensures c.in_ok-numbers.ensures.exact in
     record {
       numbers = numbers;
       small = c.in_ok-numbers.ensures.small;
       addresses = c.in_ok-addresses.ensures;
-      tables = tables_made m n f c.args.board.now c.as_slice.ensures c.in_ok-addresses.ensures numbers c.in_ok-tables.tables _ _ es_too c.lent-lent.ensures c.in_ok-tables.ensures;
+      tables = tables_made m n f c.args.board.now c.as_slice.ensures c.in_ok-addresses.ensures numbers c.in_ok-tables.tables _ _ es_too c.lent_locals-lent.ensures c.in_ok-tables.ensures;
     }

@@ -16,8 +16,8 @@ returns c =
       windows = c.windows.ensures;
       sizes = c.sizes.ensures.hold;
       sites = c.sites.ensures;
-      fit = c.typed.ensures.fit;
-      inside = c.typed.ensures.inside;
+      fit = c.typed_functions.ensures.fit;
+      inside = c.typed_functions.ensures.inside;
       reach = c.compartments-2.ensures;
       lengths = c.first_halfword_shows_length.ensures;
     } in

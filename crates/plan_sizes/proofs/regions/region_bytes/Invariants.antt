@@ -4,7 +4,7 @@ use Rattle.plan_model.specs.Blocks as blocks
 use Rattle.plan_sizes.specs.Passing.{Passes}
 use Rattle.plan_sizes.proofs.regions.region_bytes.Given as goal
 
--- what was made and what is left are the whole, and where what is left passes 32 bits, the whole does
+-- what was made and what is left are the whole, and the whole passes 32 bits where what is left passes them
 abbrev pub invariant-loop-global : goal.invariant-loop-global
 invariant-loop-global l =
     (blocks.end_from (program_of l.program) l.at (drop l.global-index l.globals) ≡ blocks.region_bytes (program_of l.program) l.globals)

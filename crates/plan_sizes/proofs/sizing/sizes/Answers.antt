@@ -19,14 +19,14 @@ returns c =
     let f = c.args.fin.now in
     let slots = c.args.slots in
     let ss = crossing_sites n f.groups in
-    let found = c.lent-lent.result.now in
+    let found = c.lent_locals-lent.result.now in
     let sites = ap seen_sites c.deref.ensures.value ∙ c.in_ok-sites.ensures in
     let same_sites = ap seen_sites c.deref-2.ensures.value ∙ c.in_ok-sites.ensures in
     let each : length f.groups.of ≡ length p.funcs = c.requires.each ∙ sym (length-map c.args.program.now.funcs (routine_of (known_of c.args.program.now))) in
     let bytes : List SiteNeed → List (ℕ × ℕ) → ℕ = λ xs ys. record_bytes f xs slots + 4 * length ys + 12 * block_count f + 4 * initial_words p f in
-    let tables = c.in-Some.ensures ∙ ap (λ xs. bytes xs found) sites ∙ ap (λ ys. bytes ss ys) c.lent-lent.ensures ∙ tables_are p n f slots in
+    let tables = c.in-Some.ensures ∙ ap (λ xs. bytes xs found) sites ∙ ap (λ ys. bytes ss ys) c.lent_locals-lent.ensures ∙ tables_are p n f slots in
     let code =
-    c.new.ensures ∙ c.in_ok-code.ensures ∙ ap (λ xs. code_with p f.groups xs found) same_sites ∙ ap (λ ys. code_with p f.groups ss ys) c.lent-lent.ensures
+    c.new.ensures ∙ c.in_ok-code.ensures ∙ ap (λ xs. code_with p f.groups xs found) same_sites ∙ ap (λ ys. code_with p f.groups ss ys) c.lent_locals-lent.ensures
     ∙ code_is p n f.groups each in
     let built : List ℕ → ℕ → Sizes = λ code tables. record { code = code; tables = tables } in
     ap (λ x. built x c.in-Some.tables) code ∙ ap (λ x. built (code_sizes p (code_groups p n f.groups) f.groups.count) x) tables

@@ -31,6 +31,6 @@ bounds-covers-choice-2 c = (covers_chosen c.covers-covers.result.now c.in-Some.c
 pub returns-clause-graph : goal.returns-clause-graph
 returns-clause-graph c =
     let all : c.into_vec-all.result.items ≡ c.args.self.now.graph.covers = c.into_vec-all.ensures ∙ c.replace.ensures.value in
-    covers_joined c.args.self.now.graph c.args.compartment c.in-Some.choice c.covers-covers.result.now c.in-Some-joined.cover c.new-3.result c.new-4.result
-    c.in-Some.ensures c.covers-covers.ensures c.in-Some-joined.ensures.cover c.in-Some-joined.ensures.one c.in-Some-joined.ensures.other (c.new-3.ensures ∙ c.in_ok-covers.ensures)
+    covers_joined c.args.self.now.graph c.args.compartment c.in-Some.choice c.covers-covers.result.now c.in-Some-join_of.cover c.new-3.result c.new-4.result
+    c.in-Some.ensures c.covers-covers.ensures c.in-Some-join_of.ensures.cover c.in-Some-join_of.ensures.one c.in-Some-join_of.ensures.other (c.new-3.ensures ∙ c.in_ok-covers.ensures)
     (c.new-4.ensures ∙ ap (λ ds. set ds c.args.compartment c.new-3.result) all)

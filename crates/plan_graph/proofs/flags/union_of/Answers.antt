@@ -4,7 +4,7 @@ use Rattle.std.proofs.lemmas.List.{take_all}
 use Rattle.std.proofs.lemmas.List.MinMax.{IsStrictWeakOrder-by_number}
 use Rattle.plan_model.specs.Lists.{in_order, without}
 use Rattle.plan_model.proofs.Orders.{sorted_is_in_order}
-use Rattle.plan_graph.proofs.flags.united.Goals as goal
+use Rattle.plan_graph.proofs.flags.union_of.Goals as goal
 
 pub returns : goal.returns
 returns c =

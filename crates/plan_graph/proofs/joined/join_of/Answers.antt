@@ -1,7 +1,7 @@
 use Rattle.std.proofs.Common.{rules, ◌≡◌, ◌*◌, ◌/◌, ℕ, ap, ◌∙◌}
 use Rattle.plan_model.specs.declared.graph.Cover.{Cover}
 use Rattle.plan_model.specs.Covers.{joined, joined_size, lowest}
-use Rattle.plan_graph.proofs.joined.joined.Goals as goal
+use Rattle.plan_graph.proofs.joined.join_of.Goals as goal
 
 pub returns-clause-cover : goal.returns-clause-cover
 unfolding joined

@@ -4,7 +4,7 @@ use Rattle.plan_model.specs.declared.groups.Groups.{Groups}
 use Rattle.plan_model.specs.Compartments.{compartments, compartment_number, used_groups}
 use Rattle.plan_policies.specs.Marks.{AreMarks, AreNumbers}
 use Rattle.plan_policies.proofs.UsedGroups.{all_below}
-use Rattle.plan_policies.proofs.numbering.numbered.Goals as goal
+use Rattle.plan_policies.proofs.numbering.compartments_by_group.Goals as goal
 
 of_more : (groups numbers before after : List ℕ) (i x : ℕ) → AreNumbers groups numbers → i < length groups → get_or groups i 0 < length numbers → x ≡ get_or numbers (get_or groups i 0) 0
     → before ≡ map (compartment_number groups) (take i groups) → after ≡ before ++ x ∷ [] → after ≡ map (compartment_number groups) (take (i + 1) groups)
