@@ -40,8 +40,8 @@ pub trait Files {
         ensures bytes { IsTrue told → IfOk result (λ n. option_map length (held self.old name.now) ≡ Some n) }
         ensures answer { called self.old (Size name.now (result_ok result)) self.new }
 
-        // It fails only by a read fault or, contents being told, where the name isn't there, and then no
-        // count rises.
+        // It fails only by a read fault or, where contents are told, if there is no such name. Without the
+        // name no count rises.
         ensures cause { OnErr result (Rose (read_faults self.old) (read_faults self.new)
             ⊎ (IsTrue told × IsNone (held self.old name.now))) }
         ensures missing { IsTrue told → IsNone (held self.old name.now) →

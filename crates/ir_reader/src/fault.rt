@@ -17,7 +17,7 @@ pub enum TextFault {
         /// Where it stands.
         pos: Pos,
     },
-    /// A number above 2^32 - 1 or below -2^31.
+    /// A number greater than 2^32 - 1, or less than -2^31.
     #[error("number too wide")]
     NumberTooWide {
         /// Where it stands.

@@ -63,7 +63,7 @@ pub record IsInOrder (j : PermissionTest) (i : Image) (p : ProtectionState) (kin
   pub aligned : x.address % x.width ≡ 0
   pub reached : IsInMemory j i p kind x ⊎ IsPrivilegedPlace p x
 
--- this is the address of the first of these accesses that is refused, all before it being in order
+-- this is the address of the first of these accesses that is refused, and all before it are in order
 abbrev pub IsFirstRefused : PermissionTest → Image → ProtectionState → Access → List Touched → (address : ℕ) → Type 0
 IsFirstRefused j i p kind [] y = ⊥
 IsFirstRefused j i p kind (x ∷ xs) y =

@@ -48,7 +48,7 @@ CodeHasParts =
     (i : Image) (xs ys : List Instr) (pc : ℕ) →
     (CodeIn i pc (xs ++ ys) → CodeIn i pc xs × CodeIn i (pc + code_size xs) ys) × (CodeIn i pc xs → CodeIn i (pc + code_size xs) ys → CodeIn i pc (xs ++ ys))
 
--- so is code that may run, and its size, an even number of bytes, is the sum of theirs
+-- code that may run is its parts too, and its size, an even number of bytes, is the sum of theirs
 abbrev pub StandingCodeHasParts : Type 0
 StandingCodeHasParts =
     (j : PermissionTest) (i : Image) (p : ProtectionState) (xs ys : List Instr) (pc : ℕ) →

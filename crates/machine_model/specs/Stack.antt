@@ -29,7 +29,7 @@ abbrev pub AreWords : List ℕ → Type 0
 AreWords [] = Unit {0}
 AreWords (v ∷ vs) = (v < 2 ^ 32) × AreWords vs
 
--- each of them may be accessed so
+-- each of them permits this access
 abbrev pub May : PermissionTest → ProtectionState → Access → (address count : ℕ) → Type 0
 May j p kind a n = (k : ℕ) → k < n → j p kind (a + 4 * k) ≡ true
 

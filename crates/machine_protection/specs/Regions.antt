@@ -21,7 +21,7 @@ is_of_legal_size g = nat_lt 4 (size_log g)
 abbrev pub is_in_block : Region → ℕ → Bool
 is_in_block g a = nat_eq (a / 2 ^ size_log g) (g.rbar / 2 ^ size_log g)
 
--- RASR.SRD: from 256 bytes on a region has eight subregions, and bit i takes out the i-th from below
+-- RASR.SRD: from 256 bytes on a region has eight subregions, of which bit i takes out the i-th, counted from the lowest
 abbrev pub is_taken_out : Region → ℕ → Bool
 is_taken_out g a = nat_lt 7 (size_log g) && nat_eq (bit_at (g.rasr / 2 ^ 8 % 2 ^ 8) (a / 2 ^ (size_log g - 3) % 8)) 1
 
