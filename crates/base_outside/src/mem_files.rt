@@ -87,7 +87,7 @@ impl MemFiles {
     }
 
     /// The bytes that are held under a name, or `None` where it isn't there. It counts as no call.
-    pub fn held(&self, name: &str) -> Option<&[u8]>
+    pub fn contents(&self, name: &str) -> Option<&[u8]>
         ensures { option_copied result ≡ held self.now name.now }
     {
         held_by(&self.files, name.as_bytes())
@@ -145,7 +145,7 @@ impl Files for MemFiles {
         ensures reads { Counts self.old.read_faults self.new.read_faults result }
     {
         let fails = self.count_call();
-        let Some(bytes) = self.held(name) else {
+        let Some(bytes) = self.contents(name) else {
             return Err(Failed);
         };
         let size = bytes.len() as u64;
@@ -174,11 +174,11 @@ impl Files for MemFiles {
         ensures reads { Counts self.old.read_faults self.new.read_faults result }
     {
         let fails = self.count_call();
-        if fails && self.held(name).is_some() {
+        if fails && self.contents(name).is_some() {
             self.read_faults = self.read_faults.saturating_add(1);
             return Err(Failed);
         }
-        match self.held(name) {
+        match self.contents(name) {
             Some(bytes) => Ok(copy_from(bytes, at, buf)),
             None => Err(Failed),
         }
@@ -260,7 +260,7 @@ fn held_by<'a>(files: &'a [MemFile], name: &[u8]) -> Option<&'a [u8]>
     ensures { option_copied result ≡ held_in files.now name.now }
 {
     match file_of(files, name) {
-        Some(file) => file.held(),
+        Some(file) => file.contents(),
         None => None,
     }
 }

@@ -16,7 +16,7 @@ ghost use Rattle.ir_reader.specs.Spelling.{as_found};
 
 use crate::error::ReadError;
 use crate::lexer::lex;
-use crate::limits::{counted, depth_excess, keep, length_excess, or_else, word_excess};
+use crate::limits::{count_excess, depth_excess, keep, length_excess, or_else, word_excess};
 use crate::terminals::{behind_mark, mark, syntax};
 use crate::token::Token;
 use base_lists::ListVec;
@@ -188,7 +188,7 @@ fn row(alloc: Global, around: u32, text: &[u8]) -> Result<(Vec<Ty>, &[u8]), Read
     let (first, mut rest) = ty(alloc, None, around, text)?;
     types.push(first)?;
     while let Some(behind) = behind_mark(Mark::Comma, rest) {
-        let first = counted(types.len(), PARAMETER_LIMIT, TextLimit::Param);
+        let first = count_excess(types.len(), PARAMETER_LIMIT, TextLimit::Param);
         let (next, behind) = ty(alloc, first, around, behind)?;
         types.push(next)?;
         rest = behind;

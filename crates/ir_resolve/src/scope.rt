@@ -118,7 +118,7 @@ pub(crate) fn func_number(scope: &Scope, name: &Name) -> u16
 }
 
 /// What `addr` names in a function: a local first.
-pub(crate) fn named(scope: &Scope, func: &FuncNames, name: &Name) -> Target
+pub(crate) fn named_target(scope: &Scope, func: &FuncNames, name: &Name) -> Target
     requires few { AreFew scope.now }
     requires names { AreFuncNames func.now }
     ensures { target_of result ≡ resolving.named_by (scope_of scope.now) (named_func func.now) name.now }

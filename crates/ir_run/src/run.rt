@@ -12,7 +12,7 @@ ghost use Rattle.ir_run.specs.Phases.{state_of};
 use crate::outcome::{SourceEnd, SourceStep};
 use crate::parts::Parts;
 use crate::reads::{FramePlace, spots};
-use crate::starting::started;
+use crate::starting::initial_parts;
 use crate::turn::turn;
 use base_lists::ListVec;
 use ir_laws::runs::{moves, registers, values};
@@ -129,7 +129,7 @@ impl<'a> SourceRun<'a> {
           taken = 0;
         }) }
     {
-        let parts = started(alloc, program, tape)?;
+        let parts = initial_parts(alloc, program, tape)?;
         frames();
         Ok(SourceRun {
             alloc,
@@ -170,7 +170,7 @@ impl<'a> SourceRun<'a> {
     }
 
     /// How many steps were answered so far.
-    pub fn taken(&self) -> u64
+    pub fn step_count(&self) -> u64
         ensures { result ≡ self.now.taken }
     {
         self.taken

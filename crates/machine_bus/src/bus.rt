@@ -78,7 +78,7 @@ impl Bus {
         requires queues { length tape ≡ length image.now.windows }
         ensures { IfOk result (λ bus. bus ≡ memory.filled image.now tape fill) }
     {
-        let image = image.copied(alloc)?;
+        let image = image.copy(alloc)?;
         let ram = vec![in alloc; fill; image.ram_size as usize]?;
         Ok(Bus { image, ram, tape })
     }
