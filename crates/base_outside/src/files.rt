@@ -28,7 +28,7 @@ pub trait Files {
     /// How many calls to write have failed by a fault. A count of 64 bits stays at its last value.
     ghost write_faults: { Self → ℕ };
 
-    /// That this call on the first files, with its answer, left the second. It lets a caller say which calls were made, and what they
+    /// The fact that this call on the first files, with its answer, left the second. It lets a caller say which calls were made, and what they
     /// answered, where the contents aren't told.
     ghost called: { Self → Call → Self → Type 0 } = { λ _ _ _. Unit {0} };
 

@@ -41,7 +41,7 @@ may_lend earlier = nat_lt (count_by is_lending earlier) lending_limit
 abbrev pub calls : List Choice → ℕ → Choice
 calls earlier a = if may_call earlier a then record { body = Calls a; depth = depth_at earlier a + 1 } else adds a
 
--- by the kind and the number that were drawn, behind earlier functions
+-- the choice by the kind and the number that were drawn, behind earlier functions
 abbrev pub chosen : List Choice → (kind number : ℕ) → Choice
 chosen earlier kind a =
     if nat_eq kind 0 then adds a
@@ -50,7 +50,7 @@ chosen earlier kind a =
     else if may_lend earlier then record { body = Lends; depth = 2 }
     else adds a
 
--- of the first so many functions of a firmware
+-- the choices of the first so many functions of a firmware
 abbrev pub choices : (seed size count : ℕ) → List Choice
 choices seed size zero = []
 choices seed size (suc n) =

@@ -1,4 +1,4 @@
--- In a firmware that passes the checks every struct counts as declared, so the types of globals and locals have layouts.
+-- Every struct of a firmware that passes the checks counts as declared, so the types of globals and locals have layouts.
 use Rattle.std.proofs.Common.{◌≡◌, ℕ, ◌≤◌, Bool, true, false, List, [], ◌∷◌, ◌++◌, map, length, Option, Some, nat_le, refl, sym, ap, ◌∙◌, subst, append_assoc, append-nil}
 use Rattle.std.specs.Prelude.{bytes_eq, if◌then◌else◌}
 use Rattle.std.specs.Cmp.Derive.{both_true}

@@ -112,7 +112,7 @@ pub enum TextLimit {
     Function,
     /// More than 4 parameters, arguments, or types between the brackets of `fn`.
     Param,
-    /// More than 120 registers of a function, its parameters counted.
+    /// More than 120 registers of a function, together with its parameters.
     Register,
     /// More than 64 locals of a function.
     Local,

@@ -59,7 +59,7 @@ pub record RefusesLast {G : Type 0} (calls : G → Event → Bool → G → Type
   pub accepts : AcceptsAll calls i before s f between
   pub refuses : calls between refused false g
 
--- what the answer of a run says that made so many steps, from one state to another
+-- what the answer says of a run of so many steps from one state to another
 abbrev pub IsEndOf : {G : Type 0} (calls : G → Event → Bool → G → Type 0) → Image → (limit steps : ℕ) → (old new : State) → G → G → End → Type 0
 IsEndOf calls i limit n s t f g (Halt k) = (t.ending ≡ Some (Halt k)) × AcceptsAll calls i n s f g
 IsEndOf calls i limit n s t f g InputEnd = (t.ending ≡ Some InputEnd) × AcceptsAll calls i n s f g

@@ -30,7 +30,7 @@ unfoldable pub holds : Region → ℕ → Bool
 holds g a = is_enabled g && (is_of_legal_size g && (is_in_block g a && not (is_taken_out g a)))
 
 -- RASR.AP, by number: 1 privileged alone, 2 privileged and unprivileged reads, 3 both, 5 privileged reads,
--- 6 and 7 reads of both; 0 allows nothing, and so does 4, which is reserved
+-- 6 and 7 reads of both; 0 and 4 allow nothing, and 4 is reserved
 abbrev pub permission : Region → ℕ
 permission g = g.rasr / 2 ^ 24 % 8
 
