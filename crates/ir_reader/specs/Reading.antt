@@ -1,5 +1,5 @@
 -- Beyond the program's claim: only laws, proofs and functions inside the tool cite this file.
--- What a function answers that reads the front of a text.
+-- The answer of a function that reads the front of a text.
 use Rattle.std.specs.Prelude.{ℕ, List, [], ◌∷◌, ◌++◌, length, ◌≡◌, ◌<◌, Option, Some, None, Result, Ok, Err, Bool, true, false, not, nat_eq}
 use Rattle.base_names.specs.Names.{is_word, is_reserved}
 use Rattle.std.specs.Borrow.{Bor}
@@ -31,7 +31,7 @@ pub record Passes {V : Type 0} (before : List Found) (spell : V → List Found) 
 abbrev pub unit : Unit {0}
 unit = tt
 
--- what a function answers that reads what is expected now
+-- the answer of a function that reads what is expected now
 abbrev pub Reads : {X V : Type 0} → (X → V) → (V → List Found) → List Symbol → List Symbol → List Placed → (X → List Placed) → Result X ReadError → Type 0
 Reads view spell now next old new (Ok x) = Passes [] spell now next old (new x) (view x)
 Reads view spell now next old new (Err e) = Fails now old e

@@ -28,7 +28,7 @@ pub enum TextFault {
     Limit {
         /// The limit.
         which: TextLimit,
-        /// Where the first token stands that passes it.
+        /// The place of the first token that passes it.
         pos: Pos,
     },
     /// Memory ran out.

@@ -39,7 +39,7 @@ fn length(text: &[u8]) -> Result<(u32, &[u8]), ReadError>
     Ok((number as u32, rest))
 }
 
-/// What the first token of a type passes that stands in so many others.
+/// What the first token of a type that stands in so many others passes.
 fn type_excess(first: Option<Excess>, around: u32) -> Option<Excess>
     ensures { result ≡ Expected.type_excess first around }
 {

@@ -179,7 +179,7 @@ impl Machine {
         }
     }
 
-    /// Register r0 to r15 (B1.4.7). r15 is where the next instruction stands; after an end, where the one stands that ended.
+    /// Register r0 to r15 (B1.4.7). r15 is where the next instruction stands; after an end, where the one that ended stands.
     pub fn reg(&self, k: u8) -> u32
         requires { k < 16 }
         ensures { result ≡ state.register self.now.state.core k }

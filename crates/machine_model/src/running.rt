@@ -1,4 +1,4 @@
-//! Running code: what the instructions do that stand in memory. Each function is a law and does nothing.
+//! Running code: what the instructions in memory do. Each function is a law and does nothing.
 
 ghost use Rattle.std.specs.Prelude.{◌≡◌, ℕ, ◌+◌, ◌*◌, ◌%◌, ◌^◌, ◌<◌, ◌≤◌, List, length, Bool};
 ghost use Rattle.base_words.specs.declared.conditions.Flags.{Flags};

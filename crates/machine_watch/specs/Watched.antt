@@ -26,7 +26,7 @@ pub record HitsLast (answers : Event → Bool → Type 0) (i : Image) (steps : �
   pub makes : event i (run (step i) before s) ≡ Some e
   pub hits : answers e true
 
--- how so many steps end that lead to a state: as the machine has ended, or by the limit; never by a refusal
+-- the end of so many steps that lead to a state: as the machine has ended, or by the limit; never by a refusal
 abbrev pub EndsBy : (limit steps : ℕ) → State → End → Type 0
 EndsBy limit n t (Halt k) = t.ending ≡ Some (Halt k)
 EndsBy limit n t InputEnd = t.ending ≡ Some InputEnd
