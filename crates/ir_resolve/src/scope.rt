@@ -87,7 +87,7 @@ pub(crate) fn register_number(func: &FuncNames, name: &Name) -> usize
     func.registers.number_or_len(name)
 }
 
-/// The type of the register of a name; none where no register has it, as for u32.
+/// The type of the register of a name, or `None` where no register has it, as for u32.
 pub(crate) fn register_type<'a>(func: &FuncNames<'a>, name: &Name) -> Option<&'a Ty>
     requires { AreFuncNames func.now }
     ensures { pointee_of result ≡ resolving.type_named (named_func func.now) name.now }

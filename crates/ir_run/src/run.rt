@@ -183,7 +183,7 @@ impl<'a> SourceRun<'a> {
         self.program
     }
 
-    /// Where each frame stands, the running one first; none where the run has ended.
+    /// Where each frame stands, the running one first. There is no frame where the run has ended.
     ///
     /// # Errors
     ///
@@ -197,7 +197,7 @@ impl<'a> SourceRun<'a> {
         }
     }
 
-    /// What the registers of the running frame hold, by their numbers; none where the run has ended.
+    /// What the registers of the running frame hold, by their numbers. There is no register where the run has ended.
     pub fn registers(&self) -> &[Value]
         ensures { map value_of result.now ≡ registers_of (frames_of self.now.state) }
     {

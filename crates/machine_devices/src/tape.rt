@@ -129,8 +129,8 @@ impl Tape {
         queue.push(word)
     }
 
-    /// Takes the first word of a queue; none exactly where that queue is empty. Takes no memory,
-    /// and constant time.
+    /// Takes the first word of a queue, and answers `None` exactly where that queue is empty. Takes no
+    /// memory, and constant time.
     pub fn take(&mut self, queue: u32) -> Option<u32>
         requires { queue < length self.old }
         ensures word { result ≡ slice_get (input.queue self.old queue) 0 }

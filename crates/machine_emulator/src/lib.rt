@@ -187,7 +187,7 @@ impl Machine {
         self.parts.core.register(k)
     }
 
-    /// The byte of flash or RAM at an address; none exactly where neither holds it.
+    /// The byte of flash or RAM at an address, and `None` exactly where neither holds it.
     pub fn byte(&self, addr: u32) -> Option<u8>
         ensures { result ≡ byte_at (location self.now.image addr) self.now.image self.now.state.ram }
     {
