@@ -31,7 +31,7 @@ is_lending c = lends c.body
 abbrev pub depth_at : List Choice → ℕ → ℕ
 depth_at cs a = (get_or cs a (adds 0)).depth
 
--- an earlier function may be called that is less deep than that
+-- an earlier function that is less deep than that may be called
 abbrev pub may_call : List Choice → ℕ → Bool
 may_call earlier a = nat_lt a (length earlier) && nat_lt (depth_at earlier a) calling_limit
 
