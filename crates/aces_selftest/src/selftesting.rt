@@ -14,7 +14,7 @@ use aces_compiler::compile_by;
 use aces_files::failure::planning_failure;
 use aces_files::telling::CommandOutput;
 use aces_reports::Failure;
-use ir_generator::checked;
+use ir_generator::checked_firmware;
 use ir_model::checked::Checked;
 use machine_devices::image::Image;
 use plan_model::Policy;
@@ -50,7 +50,7 @@ pub fn selftest<'a>(alloc: Global, seed: u32, size: u32) -> Result<CommandOutput
     ensures ok { IfOk result (λ told. SelftestAnswer seed size (told_outcome told)) }
     ensures err { IfErr result (IsRefusal (SelftestAnswer seed size)) }
 {
-    let firmware = checked(alloc, seed, size)?;
+    let firmware = checked_firmware(alloc, seed, size)?;
     let board = test_board(alloc);
     match compile_by(alloc, &firmware, &board, Policy::Filename) {
         Ok(image) => Ok(image_output(alloc, seed, size, &firmware, &image)?),

@@ -15,7 +15,7 @@ unfolding behind
 and_more-cons digit base n b bs None h = ap (λ o. elim o [ Some d ↦ and_more digit base (base * n + d) bs | None ↦ None ]) h
 and_more-cons digit base n b bs (Some c) h = ap (λ o. elim o [ Some d ↦ and_more digit base (base * n + d) bs | None ↦ None ]) h
 
--- a product of what is at least 2^32 is so too
+-- a product of a number that is at least 2^32 is at least 2^32 too
 large_product : (base n d : ℕ) → 0 < base → 2 ^ 32 ≤ n → 2 ^ 32 ≤ base * n + d
 large_product base n d p h = grind arith
 

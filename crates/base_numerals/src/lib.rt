@@ -10,7 +10,7 @@ ghost use Rattle.base_numerals.specs.Numerals as numerals;
 pub enum Numeral {
     /// No number.
     Malformed,
-    /// A number above 2^32 - 1 or below -2^31.
+    /// A number greater than 2^32 - 1, or less than -2^31.
     TooWide,
     /// The number, a negative one modulo 2^32.
     Value(u32),
@@ -19,8 +19,8 @@ pub enum Numeral {
 /// What no number of 32 bits reaches: a greater number counts as this one.
 const CAP: u64 = 1 << 32;
 
-/// The number that the bytes write: decimal digits, or `0x` and hexadecimal digits of either case,
-/// with an optional `-` directly before them. Takes no memory, and time linear in the bytes.
+/// The number that the bytes write: decimal digits, or `0x` and hexadecimal digits, small or capital,
+/// behind a `-` or without one. Takes no memory, and time linear in the bytes.
 #[tactic(auto, using(crate::proofs::Signs::numeral_negative), unfolding(crate::specs::Numerals::numeral))]
 pub fn read_numeral(bytes: &[u8]) -> Numeral
     ensures { result ≡ numerals.numeral bytes.now }

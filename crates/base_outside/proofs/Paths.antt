@@ -3,7 +3,7 @@ use Rattle.std.proofs.Common.{◌≡◌, ◌∙◌, ℕ, List, [], ◌∷◌, �
 use Rattle.base_outside.specs.Calls.{Call, Calls, Size, Read}
 use Rattle.base_outside.specs.Reading.{EndsUnread, no_size, no_bytes}
 
--- calls that end so end so with others in front of them
+-- calls that end unread end unread with others in front of them
 pub unread_behind : (earlier calls : List Call) (name : List ℕ) → EndsUnread name calls → EndsUnread name (earlier ++ calls)
 unread_behind earlier _ name (no_size before) =
     subst (EndsUnread name) (append_assoc earlier before (Size name None ∷ [])) (no_size (earlier ++ before))

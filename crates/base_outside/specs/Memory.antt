@@ -91,7 +91,7 @@ room_left files name = room_left_in files.entries name
 abbrev pub PassesRoom : FilesState → List ℕ → List ℕ → Type 0
 PassesRoom files name piece = IsSomeAnd (room_left files name) (λ left. left < length piece)
 
--- what a failing append adds: the first `keep` bytes of the piece, or fewer where the piece or the room ends
+-- what a failing append adds: `keep` bytes from the piece's front on, or as many as it has and the room takes, if those are fewer
 abbrev pub kept : FilesState → List ℕ → List ℕ → List ℕ
 kept files name piece = take (min files.keep (unwrap_or (room_left files name) 0)) piece
 

@@ -28,7 +28,7 @@ pub trait Files {
     /// How many calls to write have failed by a fault. A count of 64 bits stays at its last value.
     ghost write_faults: { Self → ℕ };
 
-    /// That this call on the first files, with its answer, left the second. It lets a caller say which calls were made, and what they
+    /// The fact that this call on the first files, with its answer, left the second. It lets a caller say which calls were made, and what they
     /// answered, where the contents aren't told.
     ghost called: { Self → Call → Self → Type 0 } = { λ _ _ _. Unit {0} };
 
@@ -40,8 +40,8 @@ pub trait Files {
         ensures bytes { IsTrue told → IfOk result (λ n. option_map length (held self.old name.now) ≡ Some n) }
         ensures answer { called self.old (Size name.now (result_ok result)) self.new }
 
-        // It fails only by a read fault or, contents being told, where the name isn't there, and then no
-        // count rises.
+        // It fails only by a read fault or, where contents are told, if there is no such name. Without the
+        // name no count rises.
         ensures cause { OnErr result (Rose (read_faults self.old) (read_faults self.new)
             ⊎ (IsTrue told × IsNone (held self.old name.now))) }
         ensures missing { IsTrue told → IsNone (held self.old name.now) →

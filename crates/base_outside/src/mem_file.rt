@@ -67,7 +67,7 @@ impl MemFile {
         self.name.as_slice() == name
     }
 
-    pub(crate) fn held(&self) -> Option<&[u8]>
+    pub(crate) fn contents(&self) -> Option<&[u8]>
         ensures { option_copied result ≡ self.now.held }
     {
         if self.there { Some(&self.bytes) } else { None }

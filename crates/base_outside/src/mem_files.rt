@@ -52,7 +52,7 @@ impl Model for MemFiles {
 impl MemFiles {
     /// Files with these entries. It takes all the memory that they will ever need. The calls on the
     /// object are numbered from 0, and those whose numbers are in `fails` fail. A failing `append` adds
-    /// the first `keep` bytes of its piece, or fewer where the piece or the room ends.
+    /// `keep` bytes from the front of its piece on, or as many as it has and the room takes, if those are fewer.
     ///
     /// # Errors
     /// `AllocError` where there is no memory for the rooms.
@@ -87,7 +87,7 @@ impl MemFiles {
     }
 
     /// The bytes that are held under a name, or `None` where it isn't there. It counts as no call.
-    pub fn held(&self, name: &str) -> Option<&[u8]>
+    pub fn contents(&self, name: &str) -> Option<&[u8]>
         ensures { option_copied result ≡ held self.now name.now }
     {
         held_by(&self.files, name.as_bytes())
@@ -145,7 +145,7 @@ impl Files for MemFiles {
         ensures reads { Counts self.old.read_faults self.new.read_faults result }
     {
         let fails = self.count_call();
-        let Some(bytes) = self.held(name) else {
+        let Some(bytes) = self.contents(name) else {
             return Err(Failed);
         };
         let size = bytes.len() as u64;
@@ -174,11 +174,11 @@ impl Files for MemFiles {
         ensures reads { Counts self.old.read_faults self.new.read_faults result }
     {
         let fails = self.count_call();
-        if fails && self.held(name).is_some() {
+        if fails && self.contents(name).is_some() {
             self.read_faults = self.read_faults.saturating_add(1);
             return Err(Failed);
         }
-        match self.held(name) {
+        match self.contents(name) {
             Some(bytes) => Ok(copy_from(bytes, at, buf)),
             None => Err(Failed),
         }
@@ -210,7 +210,7 @@ impl Files for MemFiles {
     /// # Errors
     /// `Failed` exactly where the number of this call is one of those that fail, the name isn't there or
     /// the piece would pass its room. Then the first `keep` bytes of the piece are added to a name that
-    /// is there, or fewer where the piece or the room ends.
+    /// is there, or as many as it has and the room takes, if those are fewer.
     fn append(&mut self, name: &str, piece: &[u8]) -> Result<(), Failed>
         ensures refused { IsErr result ↔ (IsFailing self.old ⊎ IsNone (held self.old name.now)
             ⊎ PassesRoom self.old name.now piece.now) }
@@ -260,7 +260,7 @@ fn held_by<'a>(files: &'a [MemFile], name: &[u8]) -> Option<&'a [u8]>
     ensures { option_copied result ≡ held_in files.now name.now }
 {
     match file_of(files, name) {
-        Some(file) => file.held(),
+        Some(file) => file.contents(),
         None => None,
     }
 }
@@ -320,7 +320,7 @@ fn add(files: &mut [MemFile], name: &[u8], piece: &[u8])
     }
 }
 
-// Adds the first `keep` bytes of a piece, or fewer where the piece or the room ends, to a name that has so much room left.
+// Adds `keep` bytes from the front of a piece on, or as many as it has and the room takes, to a name with this room left.
 fn add_kept(files: &mut [MemFile], keep: usize, left: usize, name: &[u8], piece: &[u8])
     requires { room_left_in files.old name.now ≡ Some left }
     ensures { IfSome (held_in files.old name.now) (λ bytes.
@@ -330,7 +330,7 @@ fn add_kept(files: &mut [MemFile], keep: usize, left: usize, name: &[u8], piece:
     add(files, name, &piece[..kept]);
 }
 
-// Adds a piece to a name that has so much room left, if it fits and the call doesn't fail, and else what is kept of it.
+// Adds a piece to a name with this room left, if it fits and the call doesn't fail, and else what is kept of it.
 fn add_unless(
     files: &mut [MemFile],
     fails: bool,

@@ -65,7 +65,7 @@ pub fn read_whole<F: Files>(
     ensures no_memory_told { IsTrue F.told → IsErrOf result ReadRefusal.NoMemory →
         IsSomeAnd (F.held files.old name.now) (λ bytes. length bytes ≤ limit) }
 
-    // It fails only by a read fault or, contents being told, where the name isn't there.
+    // It fails only by a read fault or, where contents are told, if there is no such name.
     ensures cause { IsErrOf result ReadRefusal.Failed → Rose (F.read_faults files.old) (F.read_faults files.new)
         ⊎ (IsTrue F.told × IsNone (F.held files.old name.now)) }
     ensures missing { IsTrue F.told → IsNone (F.held files.old name.now) →

@@ -129,7 +129,7 @@ write_apart (suc u) b x w a v mem h =
     ap (write u (b + 1) (x / 256)) (set-write w a v mem b (x % 256) (λ k lk e. h 0 (omega arith) k lk (omega arith)))
     ∙ write_apart u (b + 1) (x / 256) w a v (set mem b (x % 256)) (λ i lt k lk e. h (i + 1) (omega arith) k lk (omega arith))
 
--- of two writes to one place the second counts
+-- the second of two writes to one place counts
 pub write_over : (w a v u : ℕ) (mem : List ℕ) → write w a v (write w a u mem) ≡ write w a v mem
 unfolding write
 write_over zero a v u mem = refl

@@ -82,7 +82,7 @@ told_first : {E : Type 0} (P : E → Type 0) (o : Option E) (xs : List E) → ((
 told_first P None xs h all = all
 told_first P (Some e) xs h all = (h e refl, all)
 
--- what is so of the event of any step is so of the events of a run
+-- what holds of the event of any step holds of the events of a run
 pub each_event : {S E : Type 0} (step : S → S) (event : S → Option E) (P : E → Type 0) → ((s : S) (e : E) → event s ≡ Some e → P e)
     → (n : ℕ) (s : S) → Each P (events step event n s)
 unfolding events

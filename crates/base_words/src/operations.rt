@@ -25,7 +25,7 @@ pub fn multiply(a: u32, b: u32) -> u32
 }
 
 /// The address with a signed offset added, modulo 2^32.
-pub fn moved(address: u32, offset: i32) -> u32
+pub fn moved_address(address: u32, offset: i32) -> u32
     ensures { result ≡ moved address offset }
 {
     address.wrapping_add_signed(offset)

@@ -14,20 +14,20 @@ use Rattle.machine_devices.specs.declared.image.Image.{Image}
 use Rattle.machine_devices.specs.Rules.{ObeysRules}
 use Rattle.machine_bus.proofs.Offsets.{in_flash}
 use Rattle.machine_model.specs.Code.{size, HoldsHalf, Lies}
-use Rattle.machine_model.specs.CodeBytes.{HoldsBytes}
+use Rattle.machine_model.specs.CodeBytes.{FlashHasBytes}
 use Rattle.machine_model.proofs.CodeParts.{width-encode}
 use Rattle.machine_model.proofs.CodeBytes.{bytes_are_code, bytes_first as first_bytes}
 use Rattle.code_effects.specs.Items.{ItemsIn, InstructionsInTable, ItemsStand}
 use Rattle.code_effects.proofs.Assembled.{in_table}
 use Rattle.code_effects.proofs.Items.{branch_size_is, parts_in, parts_at, plain_code, may_run}
 
-more_bytes : (i : Image) (o n : ℕ) (xs ys : List ℕ) → length xs ≡ n → HoldsBytes i o (xs ++ ys) → HoldsBytes i (o + n) ys
+more_bytes : (i : Image) (o n : ℕ) (xs ys : List ℕ) → length xs ≡ n → FlashHasBytes i o (xs ++ ys) → FlashHasBytes i (o + n) ys
 more_bytes i o n xs ys w h =
     let e = length-append xs ys in
     let r = h.fits in
     record { fits = omega arith; holds = λ k l. let z : o + n + k ≡ o + (length xs + k) = omega arith in rw z (h.holds (length xs + k) (omega arith) ∙ get_or-append-add xs ys k 0) }
 
-half_lies : (i : Image) (o h : ℕ) → ObeysRules i → h < 2 ^ 16 → HoldsBytes i o (bytes_of_half h) → HoldsHalf i (i.flash_base + o) h
+half_lies : (i : Image) (o h : ℕ) → ObeysRules i → h < 2 ^ 16 → FlashHasBytes i o (bytes_of_half h) → HoldsHalf i (i.flash_base + o) h
 unfolding read
 half_lies i o h r f b =
     let z : o + 0 ≡ o = omega arith in
@@ -36,10 +36,10 @@ half_lies i o h r f b =
     let two : get_or i.flash (o + 1) 0 ≡ h / 256 = b.holds 1 (omega arith) in
     record { offset = o; is_in_flash = in_flash i (i.flash_base + o) o r refl (omega arith); is_half = rw (one, two) (omega arith) }
 
-instruction_lies : (i : Image) (o : ℕ) (x : Instr) → ObeysRules i → InTable x → HoldsBytes i o (bytes_of_code (encode x)) → Lies i (i.flash_base + o) x
+instruction_lies : (i : Image) (o : ℕ) (x : Instr) → ObeysRules i → InTable x → FlashHasBytes i o (bytes_of_code (encode x)) → Lies i (i.flash_base + o) x
 instruction_lies i o x r t b =
     let e : bytes_of_code (encode x) ++ [] ≡ bytes_of_code (encode x) = append-nil (bytes_of_code (encode x)) in
-    (bytes_are_code i o (x ∷ []) r (t, tt) (subst (λ (bs : List ℕ). HoldsBytes i o bs) (sym e) b)).0
+    (bytes_are_code i o (x ∷ []) r (t, tt) (subst (λ (bs : List ℕ). FlashHasBytes i o bs) (sym e) b)).0
 
 module _ (i : Image) (labels : List (Option ℕ)) (r : ObeysRules i) where
   -- what stands behind a piece of n bytes
@@ -49,10 +49,10 @@ module _ (i : Image) (labels : List (Option ℕ)) (r : ObeysRules i) where
   at_offset : (at n m : ℕ) (xs : List Item) → at + n ≡ m → InstructionsInTable labels (at + n) xs → InstructionsInTable labels m xs
   at_offset at n m xs e h = subst (λ (a : ℕ). InstructionsInTable labels a xs) e h
 
-  bytes_at_offset : (o at m : ℕ) (xs : List Item) → at ≡ m → HoldsBytes i o (bytes_from labels at xs) → HoldsBytes i o (bytes_from labels m xs)
-  bytes_at_offset o at m xs e h = subst (λ (a : ℕ). HoldsBytes i o (bytes_from labels a xs)) e h
+  bytes_at_offset : (o at m : ℕ) (xs : List Item) → at ≡ m → FlashHasBytes i o (bytes_from labels at xs) → FlashHasBytes i o (bytes_from labels m xs)
+  bytes_at_offset o at m xs e h = subst (λ (a : ℕ). FlashHasBytes i o (bytes_from labels a xs)) e h
 
-  pub from_bytes : (xs : List Item) (o : ℕ) → InstructionsInTable labels (i.flash_base + o) xs → HoldsBytes i o (bytes_from labels (i.flash_base + o) xs) → ItemsIn i labels (i.flash_base + o) xs
+  pub from_bytes : (xs : List Item) (o : ℕ) → InstructionsInTable labels (i.flash_base + o) xs → FlashHasBytes i o (bytes_from labels (i.flash_base + o) xs) → ItemsIn i labels (i.flash_base + o) xs
   from_bytes [] o t h = tt
   from_bytes (Plain x ∷ xs) o t h =
       let at : ℕ = i.flash_base + o in

@@ -13,7 +13,7 @@ use Rattle.machine_devices.specs.Rules.{ObeysRules}
 use Rattle.machine_model.specs.declared.state.ProtectionState.{ProtectionState}
 use Rattle.machine_model.specs.State.{PermissionTest}
 use Rattle.machine_model.specs.Code.{size, HoldsHalf, Lies, Stands, CodeAt}
-use Rattle.machine_model.specs.CodeBytes.{HoldsBytes}
+use Rattle.machine_model.specs.CodeBytes.{FlashHasBytes}
 use Rattle.code_model.specs.Words.{plain}
 
 -- flash holds them, and each branch is one to its label
@@ -45,7 +45,7 @@ pub record ItemsStand : Type 0 where
   pub from_assembly : (a : Assembly) → IsAssembly a → ArePut a.places a.items → first_far a.places a.base a.items ≡ None → InstructionsInTable a.places a.base a.items
   -- pieces stand where flash holds their bytes
   pub from_bytes : (i : Image) (labels : List (Option ℕ)) (offset : ℕ) (items : List Item) → ObeysRules i → InstructionsInTable labels (i.flash_base + offset) items →
-      HoldsBytes i offset (bytes_from labels (i.flash_base + offset) items) → ItemsIn i labels (i.flash_base + offset) items
+      FlashHasBytes i offset (bytes_from labels (i.flash_base + offset) items) → ItemsIn i labels (i.flash_base + offset) items
   -- and they may run where each of their bytes may be fetched
   pub may_run : (j : PermissionTest) (i : Image) (p : ProtectionState) (labels : List (Option ℕ)) (items : List Item) (at : ℕ) →
       ItemsIn i labels at items → ((a : ℕ) → at ≤ a → a < at + total items → j p Fetch a ≡ true) → ItemsAt j i p labels at items

@@ -10,7 +10,7 @@ use Rattle.machine_protection.specs.Regions.{holds}
 use Rattle.machine_protection.specs.Protection.{deciding}
 use Rattle.machine_bus.specs.Locations.{inside, location, find_window, InWindow}
 use Rattle.machine_devices.specs.Rules.{ObeysRules, IsWindow}
-use Rattle.machine_model.specs.CodeBytes.{HoldsBytes}
+use Rattle.machine_model.specs.CodeBytes.{FlashHasBytes}
 use Rattle.ir_model.specs.declared.object.ObjId.TheVariants.{Global, Local}
 use Rattle.ir_model.specs.Layout.{rounded_up}
 use Rattle.ir_model.specs.Resolved.{global_at, window_at, local_at}
@@ -83,7 +83,7 @@ memory = record {
 -- ---- code
 
 -- bytes that stand behind others and before others
-holds_part : (xs ys zs : List ℕ) (o : ℕ) → length xs ≡ o → image.flash ≡ xs ++ (ys ++ zs) → HoldsBytes image o ys
+holds_part : (xs ys zs : List ℕ) (o : ℕ) → length xs ≡ o → image.flash ≡ xs ++ (ys ++ zs) → FlashHasBytes image o ys
 holds_part xs ys zs o n e =
     let l = ap (λ (f : List ℕ). length f) e in
     let a = length-append xs (ys ++ zs) in

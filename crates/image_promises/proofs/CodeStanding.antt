@@ -3,7 +3,7 @@ use Rattle.std.proofs.Common.{◌≡◌, ℕ, ◌+◌, ◌%◌, ◌<◌, ◌≤�
 use Rattle.std.specs.Prelude.{slice_index}
 use Rattle.machine_devices.specs.Rules.{ObeysRules}
 use Rattle.machine_devices.specs.declared.image.Image.{Image}
-use Rattle.machine_model.specs.CodeBytes.{HoldsBytes}
+use Rattle.machine_model.specs.CodeBytes.{FlashHasBytes}
 use Rattle.ir_model.specs.Resolved.{Program}
 use Rattle.ir_model.specs.Resolve.{resolve}
 use Rattle.plan_model.specs.declared.plan.Plan.{Plan}
@@ -51,7 +51,7 @@ module _ (law : CodeLaws) (has : FlashReadsBack) (planned : PlannedPremises) whe
       let first = flash_first planned in
       omega (arith, e, from, first)
 
-  holds_code : (c : ℕ) → c < f.groups.count → HoldsBytes i (code_offset_of planned c) (planned_code p n f l c)
+  holds_code : (c : ℕ) → c < f.groups.count → FlashHasBytes i (code_offset_of planned c) (planned_code p n f l c)
   holds_code c there = record { fits = room; holds = λ k m. code_exact c k there m }
     where
       room : code_offset_of planned c + length (planned_code p n f l c) ≤ length i.flash
@@ -70,4 +70,4 @@ module _ (law : CodeLaws) (has : FlashReadsBack) (planned : PlannedPremises) whe
       subst (λ a. ItemsIn i (compartment_labels p (code_groups_of planned) (code_places_of planned) c) a (compartment_items p (code_groups_of planned) (code_places_of planned) c)) e
       (items.from_bytes i (compartment_labels p (code_groups_of planned) (code_places_of planned) c) (code_offset_of planned c) (compartment_items p (code_groups_of planned) (code_places_of planned) c) rules
       (subst (λ a. InstructionsInTable (compartment_labels p (code_groups_of planned) (code_places_of planned) c) a (compartment_items p (code_groups_of planned) (code_places_of planned) c)) (sym e) (code_in_table law planned c there))
-      (subst (λ a. HoldsBytes i (code_offset_of planned c) (bytes_from (compartment_labels p (code_groups_of planned) (code_places_of planned) c) a (compartment_items p (code_groups_of planned) (code_places_of planned) c))) (sym e) (holds_code c there)))
+      (subst (λ a. FlashHasBytes i (code_offset_of planned c) (bytes_from (compartment_labels p (code_groups_of planned) (code_places_of planned) c) a (compartment_items p (code_groups_of planned) (code_places_of planned) c))) (sym e) (holds_code c there)))

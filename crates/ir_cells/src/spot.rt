@@ -68,8 +68,8 @@ fn cell_below<'a>(
     }
 }
 
-/// The cell of a number of a type of at most 65,536 bytes; none where it has no more than that number. Goes down the
-/// type as `cell_number` does.
+/// The cell of a number of a type of at most 65,536 bytes, or `None` where the type has no more cells than that number.
+/// Goes down the type as `cell_number` does.
 pub fn cell<'a>(layouts: &Layouts<'a>, ty: &'a Ty, number: u32) -> Option<CellSpot<'a>>
     requires { (shape (known (map struct_of layouts.now)) (type_of ty.now)).size ≤ LIMIT }
     ensures { MatchOption result (length (shape (known (map struct_of layouts.now)) (type_of ty.now)).cells ≤ number) (λ c. slice_get (shape (known (map struct_of layouts.now)) (type_of ty.now)).cells number ≡ Some (cell_of c)) }

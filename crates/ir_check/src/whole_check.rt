@@ -8,7 +8,7 @@ ghost use Rattle.ir_check_scopes.specs.Found.{Finds, IsFaultOf};
 ghost use Rattle.ir_check.specs.Parts.{code_part};
 ghost use Rattle.ir_check_scopes.specs.Scopes.{AreSmall};
 
-use ir_check_declarations::declared::declared;
+use ir_check_declarations::declared::checked_scope;
 use ir_check_declarations::files::files;
 use ir_check_functions::funcs::funcs;
 use ir_check_functions::main_function::main_there;
@@ -36,7 +36,7 @@ fn all(alloc: Global, firmware: &Firmware) -> Result<(), CheckFault>
     requires { IsWithinLimits (firmware_of firmware.now) }
     ensures { Finds (checks (firmware_of firmware.now)) result }
 {
-    let scope = declared(alloc, firmware)?;
+    let scope = checked_scope(alloc, firmware)?;
     code(alloc, &scope)
 }
 

@@ -15,7 +15,7 @@ use std::alloc::Global;
 
 /// The checks of structs and peripherals, and the tables of the firmware.
 #[tactic(auto, using(ir_check_scopes::proofs::Order::checks_in_order))]
-pub fn declared<'a>(alloc: Global, firmware: &'a Firmware) -> Result<Scope<'a>, CheckFault>
+pub fn checked_scope<'a>(alloc: Global, firmware: &'a Firmware) -> Result<Scope<'a>, CheckFault>
     ensures finds { Finds (declared_checks (firmware_of firmware.now)) result }
     ensures firmware { IfOk result (λ s. s.firmware.now ≡ firmware.now) }
 {

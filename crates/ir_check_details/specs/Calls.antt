@@ -1,4 +1,4 @@
--- Of a call that does not fit, what was called by its arguments and the result that it keeps, and what had to be; and of a block's end.
+-- The lines of a call that does not fit: what was called by its arguments and the result that it keeps, and what had to be; and those of a block's end.
 use Rattle.std.specs.Prelude.{ℕ, List, [], ◌++◌, map, codes, Option, Some, None}
 use Rattle.ir_model.specs.declared.firmware.Inst.{Inst}
 use Rattle.ir_model.specs.declared.firmware.Inst.TheVariants as inst

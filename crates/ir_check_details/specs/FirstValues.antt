@@ -1,4 +1,4 @@
--- Of the first values of a global, that there are more than cells, or the first that does not fit its cell.
+-- The lines of the first values of a global: that there are more than cells, or the first that does not fit its cell.
 use Rattle.std.specs.Prelude.{ℕ, suc, List, [], ◌∷◌, ◌++◌, map, length, codes, nat_le, Bool, not, Option, Some, None, is_some, if◌then◌else◌, bytes_eq}
 use Rattle.std.specs.Fmt.{decimal}
 use Rattle.machine_lines.specs.Lines.{line_feed}

@@ -8,7 +8,7 @@ abbrev pub func_named : List PlainFunc → List ℕ → Option PlainFunc
 func_named [] n = None
 func_named (f ∷ fs) n = if bytes_eq f.name n then Some f else func_named fs n
 
--- of two the first that is there
+-- the first of two that is there
 abbrev pub or_else : Option PlainFunc → Option PlainFunc → Option PlainFunc
 or_else None g = g
 or_else (Some f) g = Some f

@@ -1,4 +1,4 @@
--- Of a function, the instruction or the binding whose types do not fit; and of `main`.
+-- The lines of a function: the instruction or the binding whose types do not fit; and those of `main`.
 use Rattle.std.specs.Prelude.{ℕ, List, [], ◌∷◌, ◌++◌, length, codes, nat_eq, Option, Some, None, slice_get, if◌then◌else◌}
 use Rattle.ir_model.specs.declared.firmware.Inst.{Inst}
 use Rattle.ir_model.specs.declared.firmware.Block.{Block}

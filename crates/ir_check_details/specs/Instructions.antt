@@ -1,4 +1,4 @@
--- Of an instruction whose types do not fit, the first register that does not fit, as its rule goes from left to right, and what it had to be.
+-- The lines of an instruction whose types do not fit: the first register that does not fit, as its rule goes from left to right, and what it had to be.
 use Rattle.std.specs.Prelude.{ℕ, List, [], ◌∷◌, ◌++◌, map, codes, Bool, true, false, Option, Some, None, if◌then◌else◌}
 use Rattle.ir_model.specs.declared.firmware.Peripheral.{Peripheral}
 use Rattle.ir_model.specs.Types.{PlainType, U32, Pointer, Named, is_integer, is_register_type, element_of}
@@ -17,7 +17,7 @@ found_register f r = found_typed r (type_named f r)
 abbrev pub number_lines : PlainFunc → (register : List ℕ) → List ℕ
 number_lines f r = found_register f r ++ expected_type U32
 
--- of three registers that had to be numbers the first that is none
+-- the lines of the first that is no number, of three registers that had to be numbers
 abbrev pub numbers_lines : PlainFunc → (to a b : List ℕ) → List ℕ
 numbers_lines f to a b =
     if is_number f to then (if is_number f a then number_lines f b else number_lines f a) else number_lines f to

@@ -1,4 +1,4 @@
--- Of a peripheral whose window is none, or lies over an earlier one.
+-- The lines of a peripheral whose window is none, or lies over an earlier one.
 use Rattle.std.specs.Prelude.{ℕ, List, [], ◌∷◌, ◌++◌, codes, Option, Some, None, bytes_eq, if◌then◌else◌}
 use Rattle.std.specs.Fmt.{decimal}
 use Rattle.machine_lines.specs.Lines.{hexadecimal, line_feed}

@@ -15,7 +15,7 @@ use crate::lookup::global_declared;
 use crate::wording::{put, put_count, put_decimal, put_expected_type};
 use base_names::Name;
 use ir_cells::put_cell_types;
-use ir_check_declarations::declared::declared;
+use ir_check_declarations::declared::checked_scope;
 use ir_check_scopes::lookup::is_function;
 use ir_check_scopes::values::{holds_address, holds_number};
 use ir_check_scopes::{CheckFault, Scope};
@@ -160,7 +160,7 @@ pub(crate) fn put_bad_init(
     let Some(global) = global_declared(firmware.globals.as_slice(), name.as_slice()) else {
         return Ok(());
     };
-    match declared(*out.allocator(), firmware) {
+    match checked_scope(*out.allocator(), firmware) {
         Ok(scope) => put_init(out, &scope, global),
         Err(CheckFault::At { .. }) => Ok(()),
         Err(CheckFault::NoMemory) => Err(AllocError),

@@ -6,7 +6,7 @@ use Rattle.ir_reader.specs.declared.error.Fault.{Fault}
 use Rattle.ir_reader.specs.declared.error.FaultKind.TheVariants as kind
 use Rattle.ir_reader.specs.Found.{Found, Is, Bad, End, Placed, colon_first}
 use Rattle.ir_reader.specs.Machine
-use Rattle.ir_reader.specs.Machine.{Move, Go, Stop, Skip, Step, To, Stuck, move, step, fault, may_end}
+use Rattle.ir_reader.specs.Machine.{Move, Go, Stop, Skip, Progress, To, Stuck, move, step, fault, may_end}
 use Rattle.ir_reader.specs.Scan.{placed}
 use Rattle.ir_reader.proofs.Ends.{fault_after}
 use Rattle.ir_expected_tokens.specs.declared.grammar.Class.TheVariants as class
@@ -20,14 +20,14 @@ use Rattle.ir_expected_tokens.proofs.Moves.{Follows, move_follows, end_stops}
 use Rattle.ir_expected_tokens.proofs.Steps.{going}
 
 -- what is taken, by a step of the machine
-abbrev pub ComesTo : Step → Option (List Symbol) → Type 0
+abbrev pub ComesTo : Progress → Option (List Symbol) → Type 0
 ComesTo (To x more) all = all ≡ Some (all_uncounted more)
 ComesTo Stuck all = all ≡ None
 
-abbrev step_of : Move → List Machine.Symbol → Step → Step
+abbrev step_of : Move → List Machine.Symbol → Progress → Progress
 step_of m ss others = elim m [ Go x more ↦ To x (more ++ ss) | Stop ↦ Stuck | Skip ↦ others ]
 
-by_move : (m : Move) (ss : List Machine.Symbol) (others : Step) (all below : Option (List Symbol)) → Follows m all below (all_uncounted ss) → ComesTo others below → ComesTo (step_of m ss others) all
+by_move : (m : Move) (ss : List Machine.Symbol) (others : Progress) (all below : Option (List Symbol)) → Follows m all below (all_uncounted ss) → ComesTo others below → ComesTo (step_of m ss others) all
 by_move (Go x more) ss others all below f i = f ∙ ap Some (sym (flat_map-append uncounted more ss))
 by_move Stop ss others all below f i = f
 by_move Skip ss (To x more) all below f i = f ∙ i
@@ -49,7 +49,7 @@ abbrev Again : List Placed → Fault → Type 0
 Again ps f = (ss : List Machine.Symbol) → closed (all_uncounted ss) ≡ true → fault ss ps ≡ Some f → IsStuckAt (stuck (all_uncounted ss) ps) f.left
 
 by_step : (ss : List Machine.Symbol) (p : Placed) (ps : List Placed) (f : Fault) (t : model.Token) (c : Bool) → closed (all_uncounted ss) ≡ true → Again ps f → f.kind ≡ kind.Syntax
-    → (s : Step) (all : Option (List Symbol)) → taken (all_uncounted ss) (token_class t) c ≡ all → ComesTo s all → fault_after p ps s ≡ Some f → IsStuckAt (going (all_uncounted ss) p ps all) f.left
+    → (s : Progress) (all : Option (List Symbol)) → taken (all_uncounted ss) (token_class t) c ≡ all → ComesTo s all → fault_after p ps s ≡ Some f → IsStuckAt (going (all_uncounted ss) p ps all) f.left
 by_step ss p ps f t c w again k (To None more) (Some us) a i e =
     let same : us ≡ all_uncounted more = cc in
     let v : closed (all_uncounted more) ≡ true = subst (λ z. closed z ≡ true) same (closed_after (all_uncounted ss) (token_class t) c us (token_goes_on t) w a) in

@@ -15,7 +15,7 @@ use Rattle.ir_expected_tokens.specs.Expected.{may_be_missing, behind, taken}
 use Rattle.ir_expected_tokens.specs.Laws.{is_end_symbol, closed}
 use Rattle.ir_expected_tokens.specs.Stuck.{token_class}
 
--- what is taken where a symbol has so much behind it, or may be missing
+-- what is taken where a symbol has these behind it, or may be missing
 abbrev pub taken_by : Option (List Symbol) → Bool → List Symbol → Option (List Symbol) → Option (List Symbol)
 taken_by o u ss others = elim o [ Some more ↦ Some (more ++ ss) | None ↦ (if u then others else None) ]
 

@@ -11,7 +11,7 @@ use Rattle.ir_model.specs.Tokens as model
 use Rattle.ir_reader.specs.declared.error.Fault.{Fault}
 use Rattle.ir_reader.specs.Found.{Found, Is, Bad, End, Placed, colon_first}
 use Rattle.ir_reader.specs.Machine
-use Rattle.ir_reader.specs.Machine.{Step, To, Stuck, step, fault, may_end}
+use Rattle.ir_reader.specs.Machine.{Progress, To, Stuck, step, fault, may_end}
 use Rattle.ir_reader.specs.Scan.{scan, placed, first_lexeme, Lexeme, lexeme, number_from, mark_found, dash, is_digit}
 use Rattle.ir_reader.proofs.Texts.{no_fault}
 use Rattle.ir_reader.proofs.Ends.{fault_after}
@@ -126,7 +126,7 @@ end_taken (Machine.Structs n ∷ ss) c m w = refl
 
 by_step : (ss : List Machine.Symbol) (p : Placed) (ps : List Placed) (t : model.Token) (c : Bool) → closed (all_uncounted ss) ≡ true
     → ((vs : List Machine.Symbol) → closed (all_uncounted vs) ≡ true → fault vs ps ≡ None → stuck (all_uncounted vs) ps ≡ None)
-    → (s : Step) (all : Option (List Symbol)) → taken (all_uncounted ss) (token_class t) c ≡ all → ComesTo s all → fault_after p ps s ≡ None → going (all_uncounted ss) p ps all ≡ None
+    → (s : Progress) (all : Option (List Symbol)) → taken (all_uncounted ss) (token_class t) c ≡ all → ComesTo s all → fault_after p ps s ≡ None → going (all_uncounted ss) p ps all ≡ None
 by_step ss p ps t c w again (To None more) (Some us) e i f =
     let same : us ≡ all_uncounted more = cc in
     let v : closed (all_uncounted more) ≡ true = subst (λ z. closed z ≡ true) same (closed_after (all_uncounted ss) (token_class t) c us (token_goes_on t) w e) in
@@ -161,11 +161,11 @@ placed_once : (bs : List ℕ) → EndsOnce (placed bs)
 unfolding placed
 placed_once bs = ends_once bs 0
 
-abbrev told : List ℕ → Option (List Symbol × Placed) → List ℕ
-told text found = elim found [ None ↦ [] | Some s ↦ found_line (last_bytes text s.1.left) s.1.found ++ expected_line s.0 ]
+abbrev lines_told : List ℕ → Option (List Symbol × Placed) → List ℕ
+lines_told text found = elim found [ None ↦ [] | Some s ↦ found_line (last_bytes text s.1.left) s.1.found ++ expected_line s.0 ]
 
 pub texts_have_no_lines : TextsHaveNoLines
-texts_have_no_lines w text t = ap (told text) (none_stuck (placed text) (Machine.Structs 0 ∷ []) (placed_once text) refl (no_fault text w t))
+texts_have_no_lines w text t = ap (lines_told text) (none_stuck (placed text) (Machine.Structs 0 ∷ []) (placed_once text) refl (no_fault text w t))
 
 -- the end is expected where the machine lets a text end
 pub ends_may_stand : EndsMayStand

@@ -2,7 +2,7 @@
 use Rattle.std.proofs.Common.{◌≡◌, [], ◌∷◌, ◌++◌, List, Bool, true, false, ◌||◌, ◌&&◌, refl, sym, ap, subst, ◌∙◌, Option, Some, None, is_some, if◌then◌else◌}
 use Rattle.std.proofs.lemmas.List.Folds.{list_any-append}
 use Rattle.ir_reader.specs.Machine
-use Rattle.ir_reader.specs.Machine.{Step, To, Stuck, step}
+use Rattle.ir_reader.specs.Machine.{Progress, To, Stuck, step}
 use Rattle.ir_expected_tokens.specs.declared.grammar.Class.{Class}
 use Rattle.ir_expected_tokens.specs.declared.grammar.Class.TheVariants as class
 use Rattle.ir_expected_tokens.specs.declared.grammar.Part.TheVariants as part
@@ -87,7 +87,7 @@ fits (s ∷ ss) c colon w = by_test (is_result s c colon) refl (both (is_before 
     by_test true h p again = by_result s ss c colon h (result_only s c colon h) p.0
     by_test false h p again = by_symbol s ss c colon h (again p.1)
 
-step_taken : (s : Step) (all : Option (List Symbol)) → ComesTo s all → is_some all ≡ goes s
+step_taken : (s : Progress) (all : Option (List Symbol)) → ComesTo s all → is_some all ≡ goes s
 step_taken (To x more) all h = ap is_some h
 step_taken Stuck all h = ap is_some h
 

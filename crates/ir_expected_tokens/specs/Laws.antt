@@ -9,7 +9,7 @@ use Rattle.ir_reader.specs.declared.error.Fault.{Fault}
 use Rattle.ir_reader.specs.declared.error.FaultKind.TheVariants as kind
 use Rattle.ir_reader.specs.Found.{Placed}
 use Rattle.ir_reader.specs.Machine as machine
-use Rattle.ir_reader.specs.Machine.{Step, To, Stuck, step, fault, may_end, Structs}
+use Rattle.ir_reader.specs.Machine.{Progress, To, Stuck, step, fault, may_end, Structs}
 use Rattle.ir_reader.specs.Scan.{placed}
 use Rattle.ir_expected_tokens.specs.declared.grammar.Class.{Class}
 use Rattle.ir_expected_tokens.specs.declared.grammar.Class.TheVariants as class
@@ -48,7 +48,7 @@ abbrev pub is_among : List Class → Class → Bool
 is_among classes c = list_any (λ d. is_class d c) classes
 
 -- whether a token may stand somewhere, by what the machine makes of it
-abbrev pub goes : Step → Bool
+abbrev pub goes : Progress → Bool
 goes (To x stack) = true
 goes Stuck = false
 

@@ -1,4 +1,4 @@
--- That what is drawn names what is there.
+-- All that is drawn names what is there.
 use Rattle.std.proofs.Common.{ℕ, zero, suc, ◌<◌, ◌+◌, ◌*◌, ◌≡◌, List, [], ◌∷◌, refl, arith, length, Bool, true, false, cond, length-append}
 use Rattle.std.specs.Prelude.{nat_eq}
 use Rattle.std.proofs.lemmas.List.Elements.{All-nil, All-cons, All-append}

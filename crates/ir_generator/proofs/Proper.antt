@@ -1,4 +1,4 @@
--- That the names in a generated firmware are names.
+-- The names in a generated firmware are names.
 use Rattle.std.proofs.Common.{ℕ, zero, suc, ◌<◌, ◌≤◌, ◌+◌, ◌≡◌, refl, arith, Bool, true}
 use Rattle.std.specs.Prelude.{codes}
 use Rattle.std.specs.List.{range_with_len, list_all}

@@ -31,7 +31,7 @@ is_lending c = lends c.body
 abbrev pub depth_at : List Choice → ℕ → ℕ
 depth_at cs a = (get_or cs a (adds 0)).depth
 
--- an earlier function may be called that is less deep than that
+-- an earlier function that is less deep than that may be called
 abbrev pub may_call : List Choice → ℕ → Bool
 may_call earlier a = nat_lt a (length earlier) && nat_lt (depth_at earlier a) calling_limit
 
@@ -41,7 +41,7 @@ may_lend earlier = nat_lt (count_by is_lending earlier) lending_limit
 abbrev pub calls : List Choice → ℕ → Choice
 calls earlier a = if may_call earlier a then record { body = Calls a; depth = depth_at earlier a + 1 } else adds a
 
--- by the kind and the number that were drawn, behind earlier functions
+-- the choice by the kind and the number that were drawn, behind earlier functions
 abbrev pub chosen : List Choice → (kind number : ℕ) → Choice
 chosen earlier kind a =
     if nat_eq kind 0 then adds a
@@ -50,7 +50,7 @@ chosen earlier kind a =
     else if may_lend earlier then record { body = Lends; depth = 2 }
     else adds a
 
--- of the first so many functions of a firmware
+-- the choices of the first so many functions of a firmware
 abbrev pub choices : (seed size count : ℕ) → List Choice
 choices seed size zero = []
 choices seed size (suc n) =

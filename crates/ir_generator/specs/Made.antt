@@ -37,7 +37,7 @@ main_file size = record { name = codes "m.c"; funcs = main size ∷ [] }
 abbrev pub support_file : PlainFile
 support_file = record { name = codes "s.c"; funcs = support ∷ [] }
 
--- by what its functions do
+-- the firmware, by what its functions do
 abbrev pub firmware_by : (size : ℕ) → List Choice → PlainFirmware
 firmware_by size cs =
     record {

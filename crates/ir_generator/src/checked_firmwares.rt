@@ -10,7 +10,7 @@ use std::alloc::{AllocError, Global};
 
 /// The firmware of a seed and a size, as one that is checked: no check of it fails.
 #[tactic(auto, using(crate::proofs::Typed::made_is_typed))]
-pub fn checked(alloc: Global, seed: u32, size: u32) -> Result<Checked, AllocError>
+pub fn checked_firmware(alloc: Global, seed: u32, size: u32) -> Result<Checked, AllocError>
     requires least { 1 ≤ size }
     requires most { size ≤ 200 }
     ensures { IfOk result (λ checked. firmware_of checked ≡ made seed size) }

@@ -10,4 +10,4 @@ mod naming;
 mod parts;
 pub mod tape;
 
-pub use checked_firmwares::checked;
+pub use checked_firmwares::checked_firmware;

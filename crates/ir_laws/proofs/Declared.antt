@@ -1,4 +1,4 @@
--- In a firmware that passes the checks every struct counts as declared, so the types of globals and locals have layouts.
+-- Every struct of a firmware that passes the checks counts as declared, so the types of globals and locals have layouts.
 use Rattle.std.proofs.Common.{◌≡◌, ℕ, ◌≤◌, Bool, true, false, List, [], ◌∷◌, ◌++◌, map, length, Option, Some, nat_le, refl, sym, ap, ◌∙◌, subst, append_assoc, append-nil}
 use Rattle.std.specs.Prelude.{bytes_eq, if◌then◌else◌}
 use Rattle.std.specs.Cmp.Derive.{both_true}
@@ -58,7 +58,7 @@ fields_count ds p seen ks (f ∷ fs) c h =
     (type_counts ds p ks f.ty c (right (is_new seen f.name p ∷ []) (type_checks ds (names_in ks) p f.ty) (left own rest h)))
     (fields_count ds p (seen ++ f.name ∷ []) ks fs c (right own rest h))
 
--- ---- the table
+-- ---- the list of structs
 
 abbrev the_names : List PlainStruct → List (List ℕ)
 the_names ss = map (λ (s : PlainStruct). s.name) ss
@@ -70,17 +70,17 @@ record AreCounted (ks : List Counted) (es : List PlainStruct) : Type 0 where
   each : Each Counts ks
   names : names_in ks ≡ the_names es
 
-table_more : (ks : List Counted) (es : List PlainStruct) (s : PlainStruct) (b : Bool) → b ≡ true → AreCounted ks es → AreCounted (ks ++ record { name = s.name; counts = b } ∷ []) (es ++ s ∷ [])
-table_more ks es s b e t =
+counted_more : (ks : List Counted) (es : List PlainStruct) (s : PlainStruct) (b : Bool) → b ≡ true → AreCounted ks es → AreCounted (ks ++ record { name = s.name; counts = b } ∷ []) (es ++ s ∷ [])
+counted_more ks es s b e t =
     let k : Counted = record { name = s.name; counts = b } in
     record {
       each = each_both Counts ks (k ∷ []) t.each (e, tt);
       names = names_more ks k ∙ (ap (λ (x : List (List ℕ)). x ++ s.name ∷ []) t.names ∙ sym (map-append (λ (d : PlainStruct). d.name) es (s ∷ [])));
     }
 
-tables : (ds : List (List ℕ)) (ks : List Counted) (es ss : List PlainStruct) → AreCounted ks es → Pass (structs_checks ds es ss) → AreCounted (counted_behind ks ss) (es ++ ss)
-tables ds ks es [] t h = subst (λ (x : List PlainStruct). AreCounted ks x) (sym (append-nil es)) t
-tables ds ks es (s ∷ ss) t h =
+structs_counted : (ds : List (List ℕ)) (ks : List Counted) (es ss : List PlainStruct) → AreCounted ks es → Pass (structs_checks ds es ss) → AreCounted (counted_behind ks ss) (es ++ ss)
+structs_counted ds ks es [] t h = subst (λ (x : List PlainStruct). AreCounted ks x) (sym (append-nil es)) t
+structs_counted ds ks es (s ∷ ss) t h =
     let p : CheckPlace = place.Struct s.name in
     let own : Checks = is_new (the_names es) s.name p ∷ field_checks ds (the_names es) p [] s.fields in
     let size : Checks = check (nat_le (laid_out (known es) empty s.fields).size object_limit) ObjectTooLarge p ∷ [] in
@@ -88,8 +88,8 @@ tables ds ks es (s ∷ ss) t h =
     let fields = right (is_new (the_names es) s.name p ∷ []) (field_checks ds (the_names es) p [] s.fields) (left own size mine) in
     let passes = subst (λ (x : List (List ℕ)). Pass (field_checks ds x p [] s.fields)) (sym t.names) fields in
     subst (λ (x : List PlainStruct). AreCounted (counted_behind ks (s ∷ ss)) x) (append_assoc es (s ∷ []) ss)
-    (tables ds (ks ++ record { name = s.name; counts = are_counted ks s.fields } ∷ []) (es ++ s ∷ []) ss
-    (table_more ks es s (are_counted ks s.fields) (fields_count ds p [] ks s.fields t.each passes) t)
+    (structs_counted ds (ks ++ record { name = s.name; counts = are_counted ks s.fields } ∷ []) (es ++ s ∷ []) ss
+    (counted_more ks es s (are_counted ks s.fields) (fields_count ds p [] ks s.fields t.each passes) t)
     (right (struct_checks ds es s) (structs_checks ds (es ++ s ∷ []) ss) h))
 
 -- ---- layouts
@@ -105,8 +105,8 @@ module _ (w : PlainFirmware) (typed : IsTyped w) (limits : IsWithinLimits w) whe
   declared_counts : (p : CheckPlace) (t : PlainType) → Pass (type_checks declared declared p t) → is_counted (counted w.structs) t ≡ true
   unfolding counted
   declared_counts p t h =
-      let table = tables declared [] [] w.structs (record { each = tt; names = refl }) (parts_pass w typed).structs in
-      type_counts declared p (counted w.structs) t table.each (subst (λ (x : List (List ℕ)). Pass (type_checks declared x p t)) (sym table.names) h)
+      let list = structs_counted declared [] [] w.structs (record { each = tt; names = refl }) (parts_pass w typed).structs in
+      type_counts declared p (counted w.structs) t list.each (subst (λ (x : List (List ℕ)). Pass (type_checks declared x p t)) (sym list.names) h)
 
   laid : (p : CheckPlace) (t : PlainType) → Pass (type_checks declared declared p t) → HasElements t → (shape (known w.structs) t).size ≤ object_limit → HasLayout w t
   laid p t h e s =

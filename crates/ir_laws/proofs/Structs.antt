@@ -1,4 +1,4 @@
--- In a firmware that passes the checks each field lies in its struct.
+-- Each field of a firmware that passes the checks lies in its struct.
 use Rattle.std.proofs.Common.{◌≡◌, ℕ, ◌+◌, ◌<◌, ◌≤◌, Bool, true, false, max, List, [], ◌∷◌, ◌++◌, Option, Some, nat_le, refl, sym, ap, ◌∙◌, subst, map, append_assoc, append-nil, arith}
 use Rattle.std.specs.Prelude.{bytes_eq, if◌then◌else◌}
 use Rattle.std.proofs.lemmas.Bool.{leb-true}

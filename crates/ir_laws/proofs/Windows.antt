@@ -23,7 +23,7 @@ HasRange q = IsWindowRange q.base q.size
 abbrev AreDisjoint : NumberedWindow → NumberedWindow → Type 0
 AreDisjoint q r = AreApart q.base q.size r.base r.size
 
--- of two windows the later one is apart from the earlier one
+-- the later of two windows is apart from the earlier one
 abbrev ApartFrom : Peripheral → List Peripheral → Type 0
 ApartFrom q [] = Unit {0}
 ApartFrom q (e ∷ es) = AreDisjoint (window_of e) (window_of q) × ApartFrom q es

@@ -1,6 +1,6 @@
 -- Beyond the program's claim: only laws, proofs and functions inside the tool cite this file.
 -- States of a run whose values fit: each value fits its type, with its object in the set of what holds it, and each frame
--- stands at a place of the program, the waiting ones at calls.
+-- stands at a place of the program, and a waiting one at a call.
 use Rattle.std.specs.Prelude.{◌≡◌, ℕ, ◌^◌, ◌<◌, ◌≤◌, Bool, true, List, [], ◌∷◌, length, map, Option, Some, None}
 use Rattle.std.proofs.Math.ListN.{get_or}
 use Rattle.ir_model.specs.Types.{PlainType, gives}

@@ -8,7 +8,8 @@ pub mod limits;
 pub mod runs;
 pub mod typing;
 
-/// The cells of a type lie apart and inside it; so do those of each global and each local of a firmware.
+/// The cells of a type lie apart and inside it, and the cells of each global and each local of a firmware lie apart and
+/// inside it too.
 pub fn cells()
     ensures types { CellsOfTypes }
     ensures firmwares { CellsOfFirmwares }

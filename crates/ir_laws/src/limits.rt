@@ -7,18 +7,18 @@ pub fn counts()
     ensures { CountsAreLimited }
 {}
 
-/// In a firmware that passes the checks no global and no local is larger than 65,536 bytes.
+/// No global and no local of a firmware that passes the checks is larger than 65,536 bytes.
 pub fn sizes()
     ensures { SizesAreLimited }
 {}
 
-/// In a firmware that passes the checks each peripheral's window is an aligned power of two from 32 to 65,536 bytes, inside
-/// 0x40000000 to 0x5FFFFFFF, and no two overlap.
+/// The window of each peripheral of a firmware that passes the checks is an aligned power of two from 32 to 65,536 bytes,
+/// inside 0x40000000 to 0x5FFFFFFF, and no two overlap.
 pub fn windows()
     ensures { WindowsLieApart }
 {}
 
-/// In a firmware that passes the checks and is within the limits the type of each global and of each local has a layout.
+/// The type of each global and of each local has a layout, in a firmware that passes the checks and is within the limits.
 pub fn layouts()
     ensures { LayoutsAreThere }
 {}

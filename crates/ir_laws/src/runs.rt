@@ -3,8 +3,8 @@
 ghost use Rattle.ir_laws.specs.Moves.{FramesMove};
 ghost use Rattle.ir_laws.specs.Runs.{ValuesStayInSets, ValuesFitTypes, StepsKeepValues, NumbersAreWords, PointersAreOfObjects, ElementsAreSmall, ContentsAreWhole, ReturnsAgreeWithCalls, AccessesAreInSets};
 
-/// In every state of a run each value fits its type, and each frame stands at a place of the program, the waiting ones at
-/// calls; the same holds by sets of objects for each register, object and result, where no step leaves them.
+/// Each value fits its type in every state of a run, and each frame stands at a place of the program, and a waiting one at
+/// a call; the same holds by sets of objects for each register, object and result, where no step leaves them.
 pub fn values()
     ensures types { ValuesFitTypes }
     ensures sets { ValuesStayInSets }

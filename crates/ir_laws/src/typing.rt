@@ -2,7 +2,7 @@
 
 ghost use Rattle.ir_laws.specs.Typed.{TypedOverNumbers};
 
-/// In a firmware that passes the checks and is within the limits, each instruction and each block's end fits the types of its
+/// Each instruction and each block's end of a firmware that passes the checks and is within the limits fits the types of its
 /// registers once names are numbers; initial values fit their cells; `main` is there, without parameters and result.
 pub fn places()
     ensures { TypedOverNumbers }

@@ -30,7 +30,7 @@ fn times(count: u32, number: u64) -> u64
     (u64::from(count) * number).min(CAP)
 }
 
-/// What a type has that is one cell.
+/// What a type of one cell has.
 pub(crate) fn one_cell(width: u32) -> Measure
     requires { width ≤ 4 }
     ensures { result ≡ record { size = width; align = width; cells = 1 } }

@@ -62,8 +62,8 @@ impl Drop for StructLayout<'_> {
     }
 }
 
-/// The layouts of structs, seen as the list of these structs. Each is laid out by those before it; a name means the first
-/// struct that has it, and an absent struct has no bytes.
+/// The layouts of structs, seen as the list of these structs. Each is laid out by the earlier ones. Of several structs with
+/// one name the name means the first, and an absent struct has no bytes.
 pub struct Layouts<'a> {
     pub(crate) names: Names<'a>,
     pub(crate) structs: Vec<StructLayout<'a>>,

@@ -92,22 +92,22 @@ tie_closed b s true p h = (small, λ l. large l (cases_lt SIZE_LIMIT s.size))
     large l (inl k) = ap (λ b. option_and_then closed b) (h.1 k)
     large l (inr k) = ap (λ b. option_and_then closed b) (h.0 k) ∙ beyond (record { size = rounded_up s.size s.align; align = s.align }) l
 
--- the same structs in the three tables
-abbrev pub Tables : List Sized → List Known → List Counted → Type 0
-Tables [] [] [] = Unit {0}
-Tables (k ∷ ks) (m ∷ ms) (c ∷ cs) = (k.name ≡ c.name) × (m.name ≡ c.name) × (Tied k.extent m.shape c.counts) × (0 < m.shape.align) × Tables ks ms cs
-Tables _ _ _ = ⊥
+-- the same structs in the three lists, each with its extent tied to its shape
+abbrev pub AllTied : List Sized → List Known → List Counted → Type 0
+AllTied [] [] [] = Unit {0}
+AllTied (k ∷ ks) (m ∷ ms) (c ∷ cs) = (k.name ≡ c.name) × (m.name ≡ c.name) × (Tied k.extent m.shape c.counts) × (0 < m.shape.align) × AllTied ks ms cs
+AllTied _ _ _ = ⊥
 
-tables_more : (ks : List Sized) (ms : List Known) (cs : List Counted) (k : Sized) (m : Known) (c : Counted) → Tables ks ms cs
-    → k.name ≡ c.name → m.name ≡ c.name → Tied k.extent m.shape c.counts → 0 < m.shape.align → Tables (ks ++ k ∷ []) (ms ++ m ∷ []) (cs ++ c ∷ [])
-tables_more [] [] [] k m c h d e f g = (d, e, f, g, tt)
-tables_more [] [] (c ∷ cs) k m d h e f g i = absurd h
-tables_more [] (m ∷ ms) [] k n d h e f g i = absurd h
-tables_more [] (m ∷ ms) (c ∷ cs) k n d h e f g i = absurd h
-tables_more (j ∷ ks) [] [] k m d h e f g i = absurd h
-tables_more (j ∷ ks) [] (c ∷ cs) k m d h e f g i = absurd h
-tables_more (j ∷ ks) (n ∷ ms) [] k m d h e f g i = absurd h
-tables_more (j ∷ ks) (n ∷ ms) (b ∷ cs) k m c h d e f g = (h.0, h.1, h.2, h.3, tables_more ks ms cs k m c h.4 d e f g)
+all_tied_more : (ks : List Sized) (ms : List Known) (cs : List Counted) (k : Sized) (m : Known) (c : Counted) → AllTied ks ms cs
+    → k.name ≡ c.name → m.name ≡ c.name → Tied k.extent m.shape c.counts → 0 < m.shape.align → AllTied (ks ++ k ∷ []) (ms ++ m ∷ []) (cs ++ c ∷ [])
+all_tied_more [] [] [] k m c h d e f g = (d, e, f, g, tt)
+all_tied_more [] [] (c ∷ cs) k m d h e f g i = absurd h
+all_tied_more [] (m ∷ ms) [] k n d h e f g i = absurd h
+all_tied_more [] (m ∷ ms) (c ∷ cs) k n d h e f g i = absurd h
+all_tied_more (j ∷ ks) [] [] k m d h e f g i = absurd h
+all_tied_more (j ∷ ks) [] (c ∷ cs) k m d h e f g i = absurd h
+all_tied_more (j ∷ ks) (n ∷ ms) [] k m d h e f g i = absurd h
+all_tied_more (j ∷ ks) (n ∷ ms) (b ∷ cs) k m c h d e f g = (h.0, h.1, h.2, h.3, all_tied_more ks ms cs k m c h.4 d e f g)
 
 tie_first : (a b c : Bool) (x y : Option Extent) (s t : Shape) (d e : Bool) → a ≡ c → b ≡ c → Tied x s d → Tied y t e
     → Tied (if a then x else y) (if b then s else t) (if c then d else e)
@@ -118,7 +118,7 @@ tie_first false _ true x y s t d e f g h i = cc
 tie_first true false true x y s t d e f g h i = cc
 tie_first false true false x y s t d e f g h i = cc
 
-tie_named : (ks : List Sized) (ms : List Known) (cs : List Counted) (n : List ℕ) → Tables ks ms cs → Tied (extent_named ks n) (shape_named ms n) (counted_named cs n)
+tie_named : (ks : List Sized) (ms : List Known) (cs : List Counted) (n : List ℕ) → AllTied ks ms cs → Tied (extent_named ks n) (shape_named ms n) (counted_named cs n)
 tie_named [] [] [] n h = refl
 tie_named [] [] (c ∷ cs) n h = absurd h
 tie_named [] (m ∷ ms) [] n h = absurd h
@@ -130,7 +130,7 @@ tie_named (k ∷ ks) (m ∷ ms) (c ∷ cs) n h =
     tie_first (bytes_eq k.name n) (bytes_eq m.name n) (bytes_eq c.name n) k.extent (extent_named ks n) m.shape (shape_named ms n) c.counts (counted_named cs n)
     (ap (λ w. bytes_eq w n) h.0) (ap (λ w. bytes_eq w n) h.1) h.2 (tie_named ks ms cs n h.4)
 
-positive_named : (ks : List Sized) (ms : List Known) (cs : List Counted) (n : List ℕ) → Tables ks ms cs → 0 < (shape_named ms n).align
+positive_named : (ks : List Sized) (ms : List Known) (cs : List Counted) (n : List ℕ) → AllTied ks ms cs → 0 < (shape_named ms n).align
 positive_named [] [] [] n h = omega arith
 positive_named [] [] (c ∷ cs) n h = absurd h
 positive_named [] (m ∷ ms) [] n h = absurd h
@@ -140,7 +140,7 @@ positive_named (k ∷ ks) [] (c ∷ cs) n h = absurd h
 positive_named (k ∷ ks) (m ∷ ms) [] n h = absurd h
 positive_named (k ∷ ks) (m ∷ ms) (c ∷ cs) n h = positive_first (bytes_eq m.name n) m.shape (shape_named ms n) h.3 (positive_named ks ms cs n h.4)
 
-positive : (ks : List Sized) (ms : List Known) (cs : List Counted) (t : PlainType) → Tables ks ms cs → 0 < (shape ms t).align
+positive : (ks : List Sized) (ms : List Known) (cs : List Counted) (t : PlainType) → AllTied ks ms cs → 0 < (shape ms t).align
 positive ks ms cs U8 h = omega arith
 positive ks ms cs U16 h = omega arith
 positive ks ms cs U32 h = omega arith
@@ -152,7 +152,7 @@ positive ks ms cs (Callee a r) h = omega arith
 tie_cell : (e : Extent) → e.size ≤ 4 → (e.size ≤ SIZE_LIMIT → Some e ≡ Some e) × (SIZE_LIMIT < e.size → Some e ≡ None)
 tie_cell e h = (λ l. refl, λ l. absurd (omega arith))
 
-tie : (ks : List Sized) (ms : List Known) (cs : List Counted) (t : PlainType) → Tables ks ms cs → HasElements t → Tied (extent ks t) (shape ms t) (is_counted cs t)
+tie : (ks : List Sized) (ms : List Known) (cs : List Counted) (t : PlainType) → AllTied ks ms cs → HasElements t → Tied (extent ks t) (shape ms t) (is_counted cs t)
 tie ks ms cs U8 h e = tie_cell (record { size = 1; align = 1 }) (omega arith)
 tie ks ms cs U16 h e = tie_cell (record { size = 2; align = 2 }) (omega arith)
 tie ks ms cs U32 h e = tie_cell (record { size = 4; align = 4 }) (omega arith)
@@ -172,7 +172,7 @@ and_and : (a b c : Bool) → a && b && c ≡ a && (b && c)
 and_and true b c = refl
 and_and false b c = refl
 
-tie_fields : (ks : List Sized) (ms : List Known) (cs : List Counted) (b : Option Extent) (s : Shape) (c : Bool) (fs : List PlainBinding) → Tables ks ms cs → EachHasElements fs
+tie_fields : (ks : List Sized) (ms : List Known) (cs : List Counted) (b : Option Extent) (s : Shape) (c : Bool) (fs : List PlainBinding) → AllTied ks ms cs → EachHasElements fs
     → 0 < s.align → Tied b s c → Tied (extent_behind ks b fs) (laid_out ms s fs) (c && are_counted cs fs) × (0 < (laid_out ms s fs).align)
 tie_fields ks ms cs b s c [] a e p h = (tied_same (option_and_then closed b) (laid_out ms s []) c (c && true) (sym (and_true c)) (tie_closed b s c p h), p)
 tie_fields ks ms cs b s c (f ∷ fs) a e p h =
@@ -184,19 +184,19 @@ tie_fields ks ms cs b s c (f ∷ fs) a e p h =
       r.1,
     )
 
-tables_behind : (ks : List Sized) (ms : List Known) (cs : List Counted) (ss : List PlainStruct) → Tables ks ms cs → AllHaveElements ss
-    → Tables (sized_behind ks ss) (known_behind ms ss) (counted_behind cs ss)
-tables_behind ks ms cs [] a e = a
-tables_behind ks ms cs (s ∷ ss) a e =
+all_tied_behind : (ks : List Sized) (ms : List Known) (cs : List Counted) (ss : List PlainStruct) → AllTied ks ms cs → AllHaveElements ss
+    → AllTied (sized_behind ks ss) (known_behind ms ss) (counted_behind cs ss)
+all_tied_behind ks ms cs [] a e = a
+all_tied_behind ks ms cs (s ∷ ss) a e =
     let r = tie_fields ks ms cs (Some nothing_yet) empty true s.fields a e.0 (omega arith) (λ l. refl, λ l. absurd (omega arith)) in
-    tables_behind (ks ++ record { name = s.name; extent = fields_extent ks s.fields } ∷ [])
+    all_tied_behind (ks ++ record { name = s.name; extent = fields_extent ks s.fields } ∷ [])
     (ms ++ record { name = s.name; shape = laid_out ms empty s.fields; fields = field_places ms empty s.fields } ∷ [])
     (cs ++ record { name = s.name; counts = are_counted cs s.fields } ∷ []) ss
-    (tables_more ks ms cs (record { name = s.name; extent = fields_extent ks s.fields })
+    (all_tied_more ks ms cs (record { name = s.name; extent = fields_extent ks s.fields })
     (record { name = s.name; shape = laid_out ms empty s.fields; fields = field_places ms empty s.fields })
     (record { name = s.name; counts = are_counted cs s.fields }) a refl refl r.0 r.1) e.1
 
 pub extent_tied : (ss : List PlainStruct) (t : PlainType) → AllHaveElements ss → HasElements t
     → Tied (extent (sized ss) t) (shape (known ss) t) (is_counted (counted ss) t)
 unfolding sized known counted
-extent_tied ss t a e = tie (sized_behind [] ss) (known_behind [] ss) (counted_behind [] ss) t (tables_behind [] [] [] ss tt a) e
+extent_tied ss t a e = tie (sized_behind [] ss) (known_behind [] ss) (counted_behind [] ss) t (all_tied_behind [] [] [] ss tt a) e

@@ -1,4 +1,4 @@
--- In a firmware within the limits every array has an element.
+-- Every array of a firmware within the limits has an element.
 use Rattle.std.proofs.Common.{◌≡◌, ℕ, zero, suc, ◌+◌, ◌<◌, List, [], ◌∷◌, ◌++◌, Option, None, arith}
 use Rattle.ir_model.specs.declared.token.Keyword.TheVariants.{Struct}
 use Rattle.ir_model.specs.declared.token.Mark.TheVariants.{OpenBrace, CloseBrace, Comma}

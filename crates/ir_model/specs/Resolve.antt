@@ -1,4 +1,4 @@
--- From names to numbers. A name means the first that has it; one that is not there has the number behind the last.
+-- The numbers that names stand for. A name means the first that has it; one that is not there has the number behind the last.
 use Rattle.std.specs.Prelude.{ℕ, suc, List, [], ◌∷◌, ◌++◌, length, replicate, map, if◌then◌else◌, Option, Some, None, bytes_eq, codes}
 use Rattle.std.proofs.Math.ListN.{get_or}
 use Rattle.base_names.specs.Numbers.{number_of, has}

@@ -7,7 +7,7 @@ use Rattle.ir_model.specs.declared.firmware.CmpOp.{CmpOp}
 use Rattle.ir_model.specs.Types.{PlainType, U32, PlainTypes, none, PlainResult, nothing}
 use Rattle.ir_model.specs.Layout.{CellPlace, Shape, empty}
 
--- an object that can be pointed into: a global, a peripheral, or a local of one numbered frame of a function
+-- an object that can be pointed into: a peripheral, a global, or a local of a function in the frame of one number
 pub data Instance : Type 0 where
   OfGlobal : (global : ℕ) → Instance
   OfPeriph : (periph : ℕ) → Instance

@@ -104,7 +104,7 @@ with_local [] f n l vs = []
 with_local (fr ∷ rest) f n l vs =
     if is_frame fr f n then record fr { locals = set fr.locals l vs } ∷ rest else fr ∷ with_local rest f n l vs
 
--- a peripheral has a cell of each integer type at each multiple of its size in the window
+-- a window of a peripheral has a cell of an integer type wherever the whole cell fits and its offset is a multiple of its size
 abbrev pub has_port : Program → (periph offset : ℕ) → PlainType → Bool
 has_port p q at t = is_integer t && (nat_eq (at % width_of t) 0 && nat_le (at + width_of t) (window_at p q).size)
 

@@ -45,7 +45,7 @@ function_limit = 1024
 abbrev pub parameter_limit : ℕ
 parameter_limit = 4
 
--- registers of a function, its parameters counted
+-- registers of a function, together with its parameters
 abbrev pub register_limit : ℕ
 register_limit = 120
 

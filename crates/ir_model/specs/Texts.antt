@@ -20,7 +20,7 @@ use Rattle.base_laws.specs.Lists.{Each}
 abbrev pub is_blank : ℕ → Bool
 is_blank b = nat_eq b 32 || (nat_eq b 9 || (nat_eq b 13 || nat_eq b 10))
 
--- a comment runs from `#` to before the next LF or the end
+-- a comment begins with `#`; an LF ends it and is no part of it, and else the end of the text
 abbrev pub opens_comment : ℕ → Bool
 opens_comment b = nat_eq b 35
 
@@ -102,7 +102,7 @@ pub record Begins (front behind : List Marked) : Type 0 where
   pub whole : IsWhole firmware
   pub parts : joined (lines_of firmware) ≡ front ++ behind
 
--- the tokens of no firmware begin so
+-- the tokens of no firmware begin with these
 abbrev pub NoneBegins : List Token → Type 0
 NoneBegins ts = (front behind : List Marked) → tokens front ≡ ts → Begins front behind → ⊥
 
@@ -110,7 +110,7 @@ NoneBegins ts = (front behind : List Marked) → tokens front ≡ ts → Begins 
 abbrev pub NoneIs : List Token → Type 0
 NoneIs ts = (front : List Marked) → tokens front ≡ ts → Begins front [] → ⊥
 
--- the tokens of some firmware begin so, none of them passes a limit, and then come those
+-- the tokens of some firmware begin with these, none of them passes a limit, and then come those behind
 pub record Reaches (ts : List Token) (behind : List Marked) : Type 0 where
   pub front : List Marked
   pub same : tokens front ≡ ts

@@ -36,7 +36,7 @@ pub const FUNCTION_LIMIT: usize = 1024;
 /// The parameters of a function, and the arguments of a call.
 pub const PARAMETER_LIMIT: usize = 4;
 
-/// The registers of a function, its parameters counted.
+/// The registers of a function, together with its parameters.
 pub const REGISTER_LIMIT: usize = 120;
 
 /// The locals of a function.

@@ -112,7 +112,7 @@ pub enum TextLimit {
     Function,
     /// More than 4 parameters, arguments, or types between the brackets of `fn`.
     Param,
-    /// More than 120 registers of a function, its parameters counted.
+    /// More than 120 registers of a function, together with its parameters.
     Register,
     /// More than 64 locals of a function.
     Local,
@@ -125,7 +125,7 @@ pub enum TextLimit {
 /// Why a text is refused at a token that may stand in its place.
 #[derive(Clone, Copy)]
 pub enum Excess {
-    /// A number above 2^32 - 1 or below -2^31.
+    /// A number greater than 2^32 - 1, or less than -2^31.
     TooWide,
     /// More than a limit allows.
     Passes(TextLimit),

@@ -77,7 +77,7 @@ module _ (p : Program) (c : List ℕ) (s : SourceState) (k : ℕ) (old new : Run
   pub told_event : (a : SourceStep) (x : Event) → IsStep old a new → a ≡ answer.Event x → source_event p c (run (source_step p c) k s) ≡ Some x
   told_event a x i e = let j = subst (λ y. IsStep old y new) e i in sym (ap (λ (t : SourceTurn). t.event) same_turn) ∙ j.says.1
 
-  -- it told the end: any more steps end so, with the lines of those before
+  -- it told the end: any more steps have this end, with the lines of those before
   module _ (n : ℕ) (more : k < n) (a : SourceStep) (e : code.SourceEnd) (i : IsStep old a new) (is : a ≡ answer.Ended e) where
     pub ends : source_step p c (run (source_step p c) k s) ≡ Ended (acts.end_of e)
     ends = let j = subst (λ x. IsStep old x new) is i in sym (ap (λ (t : SourceTurn). t.to) same_turn) ∙ j.says.0

@@ -106,8 +106,8 @@ fn print_run<O: Sink>(
 }
 
 /// Runs the source of a firmware on a tape for at most so many steps, by its program of numbers, in these
-/// compartments. Puts the line of each event, and then that of the end, by one put each. Answers how it ended; none where it ran
-/// all the steps without an end.
+/// compartments. Puts the line of each event, and then that of the end, by one put each. Answers how it ended, or `None` where
+/// it ran all the steps without an end.
 ///
 /// # Errors
 ///

@@ -86,7 +86,7 @@ impl Value {
         }
     }
 
-    /// The address that a value is; none where it is another value.
+    /// The address that a value is, or `None` where it is another value.
     pub fn address(self) -> Option<Address>
         ensures { MatchOption result ((go : plain.Instance → ℕ → step.SourceAct) → step.with_pointer (value_of self) go ≡ step.Fails NullFault) (λ a. value_of self ≡ plain.At (instance_of a.instance) a.offset) }
     {

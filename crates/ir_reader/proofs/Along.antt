@@ -98,7 +98,7 @@ narrow_along bytes a =
 prefix_along : (bytes : List ℕ) (a : Along bytes) → Prefix a.ts bytes a.rest
 prefix_along bytes a = placed_from a.ts bytes a.rest a.leads (narrow_along bytes a)
 
--- a firmware goes on so with a token behind those before
+-- a firmware goes on like this with a token behind those before
 pub record Goes (ts : List Token) (u : Token) (vs : List Token) (behind : Line) : Type 0 where
   pub front : Line
   pub at : Marked
@@ -134,7 +134,7 @@ tokens_with (n ∷ f) (t ∷ ts) m e =
     let r = tokens_with f ts m h in
     cc (i, r)
 
--- no firmware begins so, and one does
+-- no firmware begins with these tokens, and one does
 pub refuted : (ts : List Token) (t : Token) → NoneBegins (ts ++ t ∷ []) → (front : Line) (m : Marked) (x : Line) → tokens front ≡ ts → m.token ≡ t → Begins front (m ∷ x) → ⊥
 refuted ts t n front m x e i b =
     n (front ++ m ∷ []) x (tokens_with front ts m e ∙ ap (λ (z : Token). ts ++ z ∷ []) i) (record { firmware = b.firmware; whole = b.whole; parts = b.parts ∙ sym (append_assoc front (m ∷ []) x) })

@@ -1,4 +1,4 @@
--- For all that is expected there are tokens that stand there.
+-- Some tokens stand there for all that is expected.
 use Rattle.std.proofs.Common.{◌≡◌, ℕ, ◌+◌, [], ◌∷◌, ◌++◌, List, Bool, true, false, refl, ◌∙◌, subst, Option, None, length, arith}
 use Rattle.base_names.specs.Names.{is_reserved, reserved, declaration_words, instruction_words, type_words, operation_words, comparison_words}
 use Rattle.ir_model.specs.declared.firmware.Block.{Block}

@@ -8,7 +8,7 @@ use Rattle.ir_model.specs.declared.token.TextLimit.TheVariants as limit
 use Rattle.ir_reader.specs.Found.{Found, Is, Bad, End, Placed, colon_first}
 use Rattle.ir_reader.specs.Machine
 use Rattle.ir_reader.specs.declared.error.Fault.{Fault}
-use Rattle.ir_reader.specs.Machine.{Symbol, Step, To, Stuck, step, fault}
+use Rattle.ir_reader.specs.Machine.{Symbol, Progress, To, Stuck, step, fault}
 use Rattle.ir_reader.specs.Reading.{mark_first, is_found_mark, is_register, register_first, key_first, is_found_key}
 
 -- what is expected may be said in two ways, where each token makes the same of both
@@ -18,7 +18,7 @@ Alike a b Bad = Unit {0}
 Alike a b End = Machine.may_end a ≡ Machine.may_end b
 
 -- the first fault from a place on, by what a step of the machine comes to there
-abbrev pub fault_after : Placed → List Placed → Step → Option Fault
+abbrev pub fault_after : Placed → List Placed → Progress → Option Fault
 fault_after p ps (To x more) = elim x [ None ↦ fault more ps | Some e ↦ Some (Machine.fault_at p e) ]
 fault_after p ps Stuck = Some (Machine.syntax_at p)
 

@@ -15,7 +15,7 @@ use Rattle.ir_reader.specs.declared.error.FaultKind.TheVariants as kind
 use Rattle.ir_reader.specs.Found.{Found, Is, Bad, End, Placed, finds, colon_first}
 use Rattle.ir_reader.specs.Laws.{HasFault, TextsOrFaults}
 use Rattle.ir_reader.specs.Machine
-use Rattle.ir_reader.specs.Machine.{Symbol, Move, Go, Stop, Skip, Step, To, Stuck, step, move, fault, may_end, Structs}
+use Rattle.ir_reader.specs.Machine.{Symbol, Move, Go, Stop, Skip, Progress, To, Stuck, step, move, fault, may_end, Structs}
 use Rattle.ir_reader.specs.Scan.{scan, placed, first_lexeme}
 use Rattle.ir_reader.proofs.Allow.{only, stands}
 use Rattle.ir_reader.proofs.Ends.{fault_after}
@@ -124,7 +124,7 @@ passed (p ∷ []) st e w f = by_end (may_end st) refl (subst (λ (z : Found). fa
     by_end false i g = cc
 passed (p ∷ q ∷ ps) st e w f = by_found p.found refl f (λ stack v g. passed (q ∷ ps) stack e.1 v g)
   where
-    by_step : (t : Token) → p.found ≡ Is t → (s : Step) → step st t (colon_first (q ∷ ps)) ≡ s → fault_after (record { found = Is t; left = p.left }) (q ∷ ps) s ≡ None → ((stack : List Symbol) → well stack ≡ true → fault stack (q ∷ ps) ≡ None → Passed stack (q ∷ ps)) → Passed st (p ∷ q ∷ ps)
+    by_step : (t : Token) → p.found ≡ Is t → (s : Progress) → step st t (colon_first (q ∷ ps)) ≡ s → fault_after (record { found = Is t; left = p.left }) (q ∷ ps) s ≡ None → ((stack : List Symbol) → well stack ≡ true → fault stack (q ∷ ps) ≡ None → Passed stack (q ∷ ps)) → Passed st (p ∷ q ∷ ps)
     by_step t h (To None stack) i g again =
         let r = again stack (step_well st t (colon_first (q ∷ ps)) None stack w i) g in
         record {

@@ -10,7 +10,7 @@ use Rattle.ir_model.proofs.NoExcess.{first_none, second_none, counted_none, name
 pub type_depth : (x : Option Excess) (d : ℕ) (y : Option Excess) → or_else x (depth_excess d y) ≡ None → d < 8
 type_depth x d y h = counted_none d 8 _ y (second_none x _ h)
 
--- what a type's word says that passes no limit
+-- what a type's word that passes no limit says
 pub ruleset depth_rules = (first_none, type_depth)
 
 pub name_of_type : (w : List ℕ) (x : Option Excess) (d : ℕ) → is_word w ≡ true → is_reserved w ≡ false → or_else x (depth_excess d (word_excess w)) ≡ None → is_name w ≡ true

@@ -6,7 +6,7 @@ use Rattle.ir_model.specs.Texts.{is_blank, opens_comment, is_inside_line}
 use Rattle.ir_reader.specs.declared.error.Fault.{Fault}
 use Rattle.ir_reader.specs.Found.{Found, Is, Bad, End, Placed, colon_first}
 use Rattle.ir_reader.specs.Machine
-use Rattle.ir_reader.specs.Machine.{Symbol, Step, To, Stuck, step, fault, may_end}
+use Rattle.ir_reader.specs.Machine.{Symbol, Progress, To, Stuck, step, fault, may_end}
 use Rattle.ir_reader.specs.Scan.{scan, placed, first_lexeme}
 use Rattle.ir_reader.proofs.Ends.{fault_after}
 
@@ -38,7 +38,7 @@ at_place p n f g h i e =
     let j : g.left ≡ f.left = ap (λ (z : Fault). z.left) same in
     subst (λ (z : ℕ). z ≤ n) (sym i ∙ j) h
 
-by_step : (p : Placed) (ps : List Placed) (n : ℕ) (f : Fault) → p.left ≤ n → ((st : List Symbol) → fault st ps ≡ Some f → f.left ≤ n) → (s : Step) → fault_after p ps s ≡ Some f → f.left ≤ n
+by_step : (p : Placed) (ps : List Placed) (n : ℕ) (f : Fault) → p.left ≤ n → ((st : List Symbol) → fault st ps ≡ Some f → f.left ≤ n) → (s : Progress) → fault_after p ps s ≡ Some f → f.left ≤ n
 by_step p ps n f h again (To None stack) e = again stack e
 by_step p ps n f h again (To (Some x) stack) e = at_place p n f (Machine.fault_at p x) h refl e
 by_step p ps n f h again Stuck e = at_place p n f (Machine.syntax_at p) h refl e

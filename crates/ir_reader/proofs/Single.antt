@@ -206,7 +206,7 @@ wide_there front (Operation z) u v x w b = absurd w
 wide_there front (Comparison z) u v x w b = absurd w
 wide_there front (Sign z) u v x w b = absurd w
 
--- of three, two are the same
+-- two of three tests are the same
 two_same : (a b c : Bool) → (A : Type 0) → (a ≡ c → A) → (b ≡ c → A) → (a ≡ b → A) → A
 two_same true b true A f g h = f refl
 two_same false b false A f g h = f refl

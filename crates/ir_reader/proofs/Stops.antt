@@ -13,7 +13,7 @@ use Rattle.ir_reader.specs.declared.error.FaultKind.{FaultKind}
 use Rattle.ir_reader.specs.declared.error.FaultKind.TheVariants as kind
 use Rattle.ir_reader.specs.Found.{Found, Is, Bad, End, Placed, finds, colon_first}
 use Rattle.ir_reader.specs.Machine
-use Rattle.ir_reader.specs.Machine.{Symbol, Move, Go, Stop, Skip, Step, To, Stuck, step, fault, move, may_end}
+use Rattle.ir_reader.specs.Machine.{Symbol, Move, Go, Stop, Skip, Progress, To, Stuck, step, fault, move, may_end}
 use Rattle.ir_reader.proofs.Lang.{Langs, well}
 use Rattle.ir_reader.proofs.Allow.{stands}
 use Rattle.ir_reader.proofs.Ends.{fault_after}
@@ -196,7 +196,7 @@ at_once st p ps g f i v e =
       end = λ w front h j l. subst (λ (z : Line). Langs st z) (no_tokens front h) l;
     })
 
-by_step : (st : List Symbol) (left : ℕ) (ps : List Placed) (t : Token) (f : Fault) → ((st : List Symbol) → fault st ps ≡ Some f → Stopped st ps f) → (s : Step) → step st t (colon_first ps) ≡ s
+by_step : (st : List Symbol) (left : ℕ) (ps : List Placed) (t : Token) (f : Fault) → ((st : List Symbol) → fault st ps ≡ Some f → Stopped st ps f) → (s : Progress) → step st t (colon_first ps) ≡ s
     → fault_after (record { found = Is t; left = left }) ps s ≡ Some f → Stopped st (record { found = Is t; left = left } ∷ ps) f
 by_step st left ps t f again (To None stack) i e = grown st stack left ps t f i (again stack e)
 by_step st left ps t f again (To (Some x) stack) i e = at_once st (record { found = Is t; left = left }) ps (Machine.fault_at (record { found = Is t; left = left }) x) f refl (over t x stack refl i) e

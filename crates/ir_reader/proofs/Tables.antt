@@ -76,7 +76,7 @@ is_name w None None None h = refl
 pub free_name : (w : List ℕ) → is_reserved w ≡ false → word_token w ≡ Name w
 free_name w h = is_name w (keyword_of w) (operation_of w) (comparison_of w) (sym (reserved_found w) ∙ h)
 
--- what is found of a table is spelled so
+-- what is found of a table is spelled with these bytes
 of_table : {A : Type 0} (f : A → List ℕ) (t : List A) (w : List ℕ) (x : A) → spelled_so f t w ≡ Some x → w ≡ f x
 of_table f [] w x e = cc
 of_table f (y ∷ ys) w x e = by_test (bytes_eq w (f y)) (bytes_eq-Decides w (f y)).0 (λ i. of_table f ys w x i) e

@@ -28,11 +28,11 @@ first_is p (f ∷ fs) = p f
 abbrev One : {A : Type 0} → A → A → Spelling → Spelling → Type 0
 One a b x y = (a ≡ b) × (x ≡ y)
 
--- what is spelled so, where what stands behind it is as it has to be, is one thing
+-- a spelling, where what stands behind it is as it has to be, is that of one thing
 abbrev Unique : {A : Type 0} → (Spelling → Type 0) → (A → Spelling) → Type 0
 Unique {A} Q f = (a b : A) (x y : Spelling) → Q x → Q y → f a ++ x ≡ f b ++ y → One a b x y
 
--- each begins so, and may stand behind another
+-- each has a first token that passes the test, and may stand behind another
 abbrev Starts : {A : Type 0} → (Found → Bool) → (Spelling → Type 0) → (A → Spelling) → Type 0
 Starts {A} p Q f = (a : A) (x : Spelling) → (first_is p (f a ++ x) ≡ true) × Q (f a ++ x)
 
@@ -306,7 +306,7 @@ abbrev first_word : Spelling → List ℕ
 first_word (Is (model.Name w) ∷ x) = w
 first_word _ = []
 
--- the instruction that gives a register what is spelled so, where no call does, and what stands behind it
+-- the instruction that gives a register what this spells, where no call does, and what stands behind it
 abbrev value_back : List ℕ → Spelling → Inst × Spelling
 value_back to (Is (model.Number v) ∷ x) = (inst.Const to v, x)
 value_back to (Is (model.Name a) ∷ x) = (inst.Move to a, x)
@@ -318,12 +318,12 @@ value_back to (Is (model.Key key.Elem) ∷ x) = (inst.Elem to (first_word x) (fi
 value_back to (Is (model.Key key.Field) ∷ x) = (inst.Field to (first_word x) (first_word (behind_2 x)), behind_3 x)
 value_back to x = (inst.Load to (first_word (behind_1 x)), behind_2 x)
 
--- the instruction that is spelled so, where it is no call, and what stands behind it
+-- the instruction that this spells, where it is no call, and what stands behind it
 abbrev inst_back : Spelling → Inst × Spelling
 inst_back (Is (model.Name to) ∷ x) = value_back to (behind_1 x)
 inst_back x = (inst.Store (first_word (behind_1 x)) (first_word (behind_3 x)), behind_2 (behind_2 x))
 
--- the register, the function and what stands behind the bracket, where a call is spelled so
+-- the register, the function and what stands behind the bracket, where this spells a call
 abbrev call_back : Spelling → Option (List ℕ) × List ℕ × Spelling
 call_back (Is (model.Name to) ∷ x) = (Some to, first_word (behind_2 x), behind_2 (behind_2 x))
 call_back x = (None, first_word (behind_1 x), behind_3 x)

@@ -8,14 +8,14 @@ use Rattle.ir_reader.specs.declared.error.Fault.{Fault}
 use Rattle.ir_reader.specs.declared.error.ReadError.{ReadError}
 use Rattle.ir_reader.specs.declared.error.ReadError.TheVariants as errors
 use Rattle.ir_reader.specs.Found.{Is, Placed, finds, colon_first}
-use Rattle.ir_reader.specs.Machine.{Symbol, Move, Go, Stop, Skip, Step, To, Stuck, step, fault, value_key, Value, Insts, AfterRet}
+use Rattle.ir_reader.specs.Machine.{Symbol, Move, Go, Stop, Skip, Progress, To, Stuck, step, fault, value_key, Value, Insts, AfterRet}
 use Rattle.ir_reader.specs.Reading.{ReadsBehind, Fails}
 use Rattle.ir_reader.specs.Lines.{ReadsValue, FailsBy, PassesBy}
 use Rattle.ir_grammar.specs.Spelling.{spell_inst, spell_assigned}
 use Rattle.ir_reader.specs.Spelling.{Key, as_found}
 use Rattle.ir_reader.proofs.Ends.{fault_after}
 
-abbrev pub stepped : List Symbol → model.Token → Bool → Move → Step
+abbrev pub stepped : List Symbol → model.Token → Bool → Move → Progress
 stepped st t c (Go x more) = To x (more ++ st)
 stepped st t c Stop = Stuck
 stepped st t c Skip = step st t c

@@ -1,5 +1,5 @@
 -- Beyond the program's claim: only laws, proofs and functions inside the tool cite this file.
--- What a function answers that reads an instruction or the end of a block.
+-- The answer of a function that reads an instruction or the end of a block.
 use Rattle.std.specs.Prelude.{ℕ, ◌+◌, ◌<◌, List, [], ◌∷◌, ◌++◌, ◌≡◌, Some, None, Result, Ok, Err}
 use Rattle.std.specs.Borrow.{Bor}
 use Rattle.ir_model.specs.declared.token.Keyword.{Keyword}
@@ -9,8 +9,8 @@ use Rattle.ir_reader.specs.declared.error.Fault.{Fault}
 use Rattle.ir_reader.specs.declared.error.FaultKind.TheVariants as kind
 use Rattle.ir_reader.specs.declared.error.ReadError.{ReadError}
 use Rattle.ir_reader.specs.declared.error.ReadError.TheVariants as errors
-use Rattle.ir_reader.specs.declared.instructions.Step.{Step}
-use Rattle.ir_reader.specs.declared.instructions.Step.TheVariants as step
+use Rattle.ir_reader.specs.declared.instructions.BlockItem.{BlockItem}
+use Rattle.ir_reader.specs.declared.instructions.BlockItem.TheVariants as item
 use Rattle.ir_reader.specs.Found.{Found, Placed}
 use Rattle.ir_reader.specs.Machine.{Symbol, Move, Go, Stop, Skip, fault, Insts, Blocks, value_key}
 use Rattle.ir_reader.specs.Reading.{Passes, Fails}
@@ -18,14 +18,14 @@ use Rattle.ir_grammar.specs.Spelling.{spell_inst, spell_term, spell_assigned}
 use Rattle.ir_reader.specs.Spelling.{Key, as_found}
 
 -- an instruction is behind few enough others
-abbrev pub IsBelow : ℕ → Step → Type 0
-IsBelow n (step.Inst i) = n < instruction_limit
-IsBelow n (step.Term t) = Unit {0}
+abbrev pub IsBelow : ℕ → BlockItem → Type 0
+IsBelow n (item.Inst i) = n < instruction_limit
+IsBelow n (item.Term t) = Unit {0}
 
 -- an instruction or the end of a block, behind so many instructions and any number of blocks
-abbrev pub ReadsLine : ℕ → List Placed → (List ℕ → List Placed) → Result (Step × Bor (List ℕ)) ReadError → Type 0
-ReadsLine n old placed (Ok (step.Inst i, rest)) = (k : ℕ) → Passes [] (spell_inst as_found) (Insts k n ∷ []) (Insts k (n + 1) ∷ []) old (placed rest.now) i
-ReadsLine n old placed (Ok (step.Term t, rest)) = (k : ℕ) → Passes [] (spell_term as_found) (Insts k n ∷ []) (Blocks k n ∷ []) old (placed rest.now) t
+abbrev pub ReadsLine : ℕ → List Placed → (List ℕ → List Placed) → Result (BlockItem × Bor (List ℕ)) ReadError → Type 0
+ReadsLine n old placed (Ok (item.Inst i, rest)) = (k : ℕ) → Passes [] (spell_inst as_found) (Insts k n ∷ []) (Insts k (n + 1) ∷ []) old (placed rest.now) i
+ReadsLine n old placed (Ok (item.Term t, rest)) = (k : ℕ) → Passes [] (spell_term as_found) (Insts k n ∷ []) (Blocks k n ∷ []) old (placed rest.now) t
 ReadsLine n old placed (Err e) = (k : ℕ) → Fails (Insts k n ∷ []) old e
 
 -- what a reserved word, which begins what a register gets, asks for behind it

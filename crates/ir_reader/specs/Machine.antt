@@ -411,11 +411,11 @@ may_end (Gives d ∷ st) = may_end st
 may_end (s ∷ st) = is_last s
 
 -- what a token makes of all that is expected
-pub data Step : Type 0 where
-  To : (excess : Option Excess) → (stack : List Symbol) → Step
-  Stuck : Step
+pub data Progress : Type 0 where
+  To : (excess : Option Excess) → (stack : List Symbol) → Progress
+  Stuck : Progress
 
-abbrev pub step : List Symbol → Token → Bool → Step
+abbrev pub step : List Symbol → Token → Bool → Progress
 step [] t c = Stuck
 step (s ∷ st) t c = elim (move s t c) [ Go x more ↦ To x (more ++ st) | Stop ↦ Stuck | Skip ↦ step st t c ]
 

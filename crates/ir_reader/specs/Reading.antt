@@ -1,5 +1,5 @@
 -- Beyond the program's claim: only laws, proofs and functions inside the tool cite this file.
--- What a function answers that reads the front of a text.
+-- The answer of a function that reads the front of a text.
 use Rattle.std.specs.Prelude.{ℕ, List, [], ◌∷◌, ◌++◌, length, ◌≡◌, ◌<◌, Option, Some, None, Result, Ok, Err, Bool, true, false, not, nat_eq}
 use Rattle.base_names.specs.Names.{is_word, is_reserved}
 use Rattle.std.specs.Borrow.{Bor}
@@ -23,7 +23,7 @@ abbrev pub Fails : List Symbol → List Placed → ReadError → Type 0
 Fails now old errors.Memory = Unit {0}
 Fails now old (errors.Fault f) = (st : List Symbol) → fault (now ++ st) old ≡ Some f
 
--- behind what was read before, this is spelled so, and in place of what was expected something else is expected behind it
+-- behind what was read before, this spells the value, and in place of what was expected something else is expected behind it
 pub record Passes {V : Type 0} (before : List Found) (spell : V → List Found) (now next : List Symbol) (old new : List Placed) (v : V) : Type 0 where
   pub spelled : before ++ finds old ≡ spell v ++ finds new
   pub passed : (st : List Symbol) → fault (now ++ st) old ≡ fault (next ++ st) new
@@ -31,7 +31,7 @@ pub record Passes {V : Type 0} (before : List Found) (spell : V → List Found) 
 abbrev pub unit : Unit {0}
 unit = tt
 
--- what a function answers that reads what is expected now
+-- the answer of a function that reads what is expected now
 abbrev pub Reads : {X V : Type 0} → (X → V) → (V → List Found) → List Symbol → List Symbol → List Placed → (X → List Placed) → Result X ReadError → Type 0
 Reads view spell now next old new (Ok x) = Passes [] spell now next old (new x) (view x)
 Reads view spell now next old new (Err e) = Fails now old e
@@ -46,7 +46,7 @@ abbrev pub ReadsTo : {X V : Type 0} → (X → V) → (V → List Found) → Lis
 ReadsTo view spell now next old new (Ok x) = Passes [] spell now (next x) old (new x) (view x)
 ReadsTo view spell now next old new (Err e) = Fails now old e
 
--- whether a token that passes so much may be kept
+-- whether a token that passes this limit, or none, may be kept
 abbrev pub Keeps : Option Excess → ℕ → Result (Unit {0}) ReadError → Type 0
 Keeps x left (Ok u) = x ≡ None
 Keeps x left (Err e) = (k : Excess) × (x ≡ Some k) × (e ≡ errors.Fault (record { kind = kind.Exceeds k; left = left }))

@@ -12,7 +12,7 @@ ghost use Rattle.ir_grammar.specs.Spelling as grammar;
 ghost use Rattle.ir_reader.specs.Spelling.{as_found};
 
 use crate::error::ReadError;
-use crate::limits::counted;
+use crate::limits::count_excess;
 use crate::terminals::{behind_mark, mark, name, name_behind};
 use crate::types::ty;
 use base_names::Name;
@@ -47,7 +47,7 @@ pub fn fields(alloc: Global, text: &[u8]) -> Result<(Vec<Binding>, &[u8]), ReadE
     let (first, mut rest) = binding(alloc, None, text)?;
     fields.push(first)?;
     while let Some(behind) = behind_mark(Mark::Comma, rest) {
-        let first = counted(fields.len(), FIELD_LIMIT, TextLimit::Field);
+        let first = count_excess(fields.len(), FIELD_LIMIT, TextLimit::Field);
         let (next, behind) = binding(alloc, first, behind)?;
         fields.push(next)?;
         rest = behind;
@@ -69,7 +69,7 @@ pub fn params(alloc: Global, text: &[u8]) -> Result<(Vec<Binding>, &[u8]), ReadE
     let (first, mut rest) = binding(alloc, None, text)?;
     params.push(first)?;
     while let Some(behind) = behind_mark(Mark::Comma, rest) {
-        let first = counted(params.len(), PARAMETER_LIMIT, TextLimit::Param);
+        let first = count_excess(params.len(), PARAMETER_LIMIT, TextLimit::Param);
         let (next, behind) = binding(alloc, first, behind)?;
         params.push(next)?;
         rest = behind;
@@ -90,7 +90,7 @@ pub fn args(alloc: Global, text: &[u8]) -> Result<(Vec<Name>, &[u8]), ReadError>
     let (first, mut rest) = name(alloc, text)?;
     args.push(first)?;
     while let Some(behind) = behind_mark(Mark::Comma, rest) {
-        let first = counted(args.len(), PARAMETER_LIMIT, TextLimit::Param);
+        let first = count_excess(args.len(), PARAMETER_LIMIT, TextLimit::Param);
         let (next, behind) = name_behind(alloc, first, behind)?;
         args.push(next)?;
         rest = behind;

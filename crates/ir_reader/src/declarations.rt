@@ -15,7 +15,7 @@ ghost use Rattle.ir_reader.specs.Spelling.{as_found};
 use crate::bindings::{binding, fields};
 use crate::error::ReadError;
 use crate::lexer::lex;
-use crate::limits::{counted, keep, number_excess};
+use crate::limits::{count_excess, keep, number_excess};
 use crate::terminals::{behind_mark, behind_word, global_word, mark, name, number, syntax};
 use crate::token::Token;
 use base_lists::ListVec;
@@ -51,7 +51,7 @@ pub fn structs(alloc: Global, text: &[u8]) -> Result<(Vec<StructDecl>, &[u8]), R
     let mut rest = text;
     while let Some((left, behind)) = behind_word(Keyword::Struct, rest) {
         keep(
-            counted(structs.len(), STRUCT_LIMIT, TextLimit::Struct),
+            count_excess(structs.len(), STRUCT_LIMIT, TextLimit::Struct),
             left,
         )?;
         let (next, behind) = struct_behind(alloc, behind)?;
@@ -80,7 +80,7 @@ pub fn periphs(alloc: Global, text: &[u8]) -> Result<(Vec<Peripheral>, &[u8]), R
     let mut rest = text;
     while let Some((left, behind)) = behind_word(Keyword::Periph, rest) {
         keep(
-            counted(periphs.len(), PERIPH_LIMIT, TextLimit::Periph),
+            count_excess(periphs.len(), PERIPH_LIMIT, TextLimit::Periph),
             left,
         )?;
         let (next, behind) = periph_behind(alloc, behind)?;
@@ -100,18 +100,18 @@ fn cell(alloc: Global, before: usize, text: &[u8]) -> Result<(Cell, &[u8]), Read
     match token {
         Token::Number(number) => {
             keep(
-                number_excess(number, counted(before, CELL_LIMIT, TextLimit::Cell)),
+                number_excess(number, count_excess(before, CELL_LIMIT, TextLimit::Cell)),
                 left,
             )?;
             Ok((Cell::Word(number as u32), rest))
         }
         Token::Key(Keyword::Fn) => {
-            keep(counted(before, CELL_LIMIT, TextLimit::Cell), left)?;
+            keep(count_excess(before, CELL_LIMIT, TextLimit::Cell), left)?;
             let (function, rest) = name(alloc, rest)?;
             Ok((Cell::Function(function), rest))
         }
         Token::Key(Keyword::Addr) => {
-            keep(counted(before, CELL_LIMIT, TextLimit::Cell), left)?;
+            keep(count_excess(before, CELL_LIMIT, TextLimit::Cell), left)?;
             let (object, rest) = name(alloc, rest)?;
             Ok((Cell::Address(object), rest))
         }
@@ -155,12 +155,12 @@ fn constant(before: usize, text: &[u8]) -> Result<Option<(bool, &[u8])>, ReadErr
     ensures { Starts before (placed text.now) placed result }
 {
     if let Some((left, behind)) = behind_word(Keyword::Const, text) {
-        keep(counted(before, GLOBAL_LIMIT, TextLimit::Global), left)?;
+        keep(count_excess(before, GLOBAL_LIMIT, TextLimit::Global), left)?;
         let rest = global_word(behind)?;
         return Ok(Some((true, rest)));
     }
     if let Some((left, behind)) = behind_word(Keyword::Global, text) {
-        keep(counted(before, GLOBAL_LIMIT, TextLimit::Global), left)?;
+        keep(count_excess(before, GLOBAL_LIMIT, TextLimit::Global), left)?;
         return Ok(Some((false, behind)));
     }
     Ok(None)

@@ -17,7 +17,7 @@ pub enum TextFault {
         /// Where it stands.
         pos: Pos,
     },
-    /// A number above 2^32 - 1 or below -2^31.
+    /// A number greater than 2^32 - 1, or less than -2^31.
     #[error("number too wide")]
     NumberTooWide {
         /// Where it stands.
@@ -28,7 +28,7 @@ pub enum TextFault {
     Limit {
         /// The limit.
         which: TextLimit,
-        /// Where the first token stands that passes it.
+        /// The place of the first token that passes it.
         pos: Pos,
     },
     /// Memory ran out.

@@ -15,9 +15,9 @@ ghost use Rattle.ir_reader.specs.Spelling.{as_found};
 
 use crate::bindings::{binding, outcome, params};
 use crate::error::ReadError;
-use crate::instructions::{Step, line};
+use crate::instructions::{BlockItem, line};
 use crate::lexer::lex;
-use crate::limits::{counted, keep};
+use crate::limits::{count_excess, keep};
 use crate::terminals::{behind_mark, behind_word, mark, name, name_behind, syntax};
 use crate::token::Token;
 use base_lists::ListVec;
@@ -37,13 +37,13 @@ fn lines(alloc: Global, before: usize, text: &[u8]) -> Result<((Vec<Inst>, Term)
     let mut insts = Vec::new(alloc);
     let mut rest = text;
     loop {
-        let (step, behind) = line(alloc, before + insts.len(), rest)?;
-        match step {
-            Step::Inst(inst) => {
+        let (item, behind) = line(alloc, before + insts.len(), rest)?;
+        match item {
+            BlockItem::Inst(inst) => {
                 insts.push(inst)?;
                 rest = behind;
             }
-            Step::Term(term) => return Ok(((insts, term), behind)),
+            BlockItem::Term(term) => return Ok(((insts, term), behind)),
         }
     }
 }
@@ -61,7 +61,11 @@ fn block(
     ensures instructions { IfOk result (λ x. instructions + length x.0.insts ≤ instruction_limit) }
     ensures read { ReadsTo (λ x. x.0) (grammar.spell_block as_found) (Expected.First before instructions ∷ []) (λ x. Expected.Blocks (before + 1) (instructions + length x.0.insts) ∷ []) (placed text.now) (λ x. placed x.1.now) result }
 {
-    let (label, rest) = name_behind(alloc, counted(before, BLOCK_LIMIT, TextLimit::Block), text)?;
+    let (label, rest) = name_behind(
+        alloc,
+        count_excess(before, BLOCK_LIMIT, TextLimit::Block),
+        text,
+    )?;
     let rest = mark(Mark::Colon, rest)?;
     let ((insts, term), rest) = lines(alloc, instructions, rest)?;
     Ok((
@@ -102,7 +106,10 @@ fn locals(alloc: Global, params: usize, text: &[u8]) -> Result<(Vec<Binding>, &[
     let mut locals = Vec::new(alloc);
     let mut rest = text;
     while let Some((left, behind)) = behind_word(Keyword::Local, rest) {
-        keep(counted(locals.len(), LOCAL_LIMIT, TextLimit::Local), left)?;
+        keep(
+            count_excess(locals.len(), LOCAL_LIMIT, TextLimit::Local),
+            left,
+        )?;
         let (next, behind) = binding(alloc, None, behind)?;
         locals.push(next)?;
         rest = behind;
@@ -120,7 +127,7 @@ fn regs(alloc: Global, params: usize, text: &[u8]) -> Result<(Vec<Binding>, &[u8
     let mut rest = text;
     while let Some((left, behind)) = behind_word(Keyword::Reg, rest) {
         keep(
-            counted(params + regs.len(), REGISTER_LIMIT, TextLimit::Register),
+            count_excess(params + regs.len(), REGISTER_LIMIT, TextLimit::Register),
             left,
         )?;
         let (next, behind) = binding(alloc, None, behind)?;
@@ -229,7 +236,7 @@ fn funcs(alloc: Global, before: usize, text: &[u8]) -> Result<(Vec<Func>, &[u8])
     let mut rest = text;
     while let Some((left, behind)) = behind_word(Keyword::Func, rest) {
         keep(
-            counted(before + funcs.len(), FUNCTION_LIMIT, TextLimit::Function),
+            count_excess(before + funcs.len(), FUNCTION_LIMIT, TextLimit::Function),
             left,
         )?;
         let (next, behind) = func_behind(alloc, behind)?;
@@ -281,7 +288,7 @@ pub fn files(alloc: Global, text: &[u8]) -> Result<Vec<FileDecl>, ReadError>
     let mut functions = 0;
     let mut rest = text;
     while let Some((left, behind)) = next_file(rest)? {
-        keep(counted(files.len(), FILE_LIMIT, TextLimit::File), left)?;
+        keep(count_excess(files.len(), FILE_LIMIT, TextLimit::File), left)?;
         let (next, behind) = file_behind(alloc, functions, behind)?;
         functions += next.funcs.len();
         files.push(next)?;

@@ -14,7 +14,7 @@ ghost use Rattle.ir_reader.specs.Spelling.{as_found};
 use crate::bindings::args;
 use crate::error::ReadError;
 use crate::lexer::lex;
-use crate::limits::{counted, keep, number_excess, or_else, word_excess};
+use crate::limits::{count_excess, keep, number_excess, or_else, word_excess};
 use crate::terminals::{mark, name, syntax};
 use crate::token::Token;
 use base_lists::ListVec;
@@ -26,7 +26,7 @@ use std::alloc::Global;
 
 /// An instruction or the end of a block.
 #[derive(Drop)]
-pub enum Step {
+pub enum BlockItem {
     /// An instruction.
     Inst(Inst),
     /// The end of a block.
@@ -189,7 +189,7 @@ fn branch(alloc: Global, text: &[u8]) -> Result<(Term, &[u8]), ReadError>
 
 /// An instruction behind so many others or the end of a block, and the text behind it.
 #[tactic(auto, using(ir_model::proofs::NoExcess::name_of_word, ir_model::proofs::NoExcess::first_none, ir_model::proofs::NoExcess::counted_none))]
-pub fn line(alloc: Global, before: usize, text: &[u8]) -> Result<(Step, &[u8]), ReadError>
+pub fn line(alloc: Global, before: usize, text: &[u8]) -> Result<(BlockItem, &[u8]), ReadError>
     ensures limit { IfOk result (λ x. IsBelow before x.0) }
     ensures read { ReadsLine before (placed text.now) placed result }
 {
@@ -198,7 +198,7 @@ pub fn line(alloc: Global, before: usize, text: &[u8]) -> Result<(Step, &[u8]), 
         Token::Name(word) => {
             keep(
                 or_else(
-                    counted(before, INSTRUCTION_LIMIT, TextLimit::Instruction),
+                    count_excess(before, INSTRUCTION_LIMIT, TextLimit::Instruction),
                     word_excess(word),
                 ),
                 left,
@@ -206,24 +206,24 @@ pub fn line(alloc: Global, before: usize, text: &[u8]) -> Result<(Step, &[u8]), 
             let to = Name::of(alloc, word)?;
             let rest = mark(Mark::Equal, rest)?;
             let (inst, rest) = value(alloc, to, rest)?;
-            Ok((Step::Inst(inst), rest))
+            Ok((BlockItem::Inst(inst), rest))
         }
         Token::Key(Keyword::Store) => {
             keep(
-                counted(before, INSTRUCTION_LIMIT, TextLimit::Instruction),
+                count_excess(before, INSTRUCTION_LIMIT, TextLimit::Instruction),
                 left,
             )?;
             let ((to, from), rest) = two_names(alloc, rest)?;
-            Ok((Step::Inst(Inst::Store { to, from }), rest))
+            Ok((BlockItem::Inst(Inst::Store { to, from }), rest))
         }
         Token::Key(Keyword::Call) => {
             keep(
-                counted(before, INSTRUCTION_LIMIT, TextLimit::Instruction),
+                count_excess(before, INSTRUCTION_LIMIT, TextLimit::Instruction),
                 left,
             )?;
             let ((func, args), rest) = called(alloc, rest)?;
             Ok((
-                Step::Inst(Inst::Call {
+                BlockItem::Inst(Inst::Call {
                     to: None,
                     func,
                     args,
@@ -233,12 +233,12 @@ pub fn line(alloc: Global, before: usize, text: &[u8]) -> Result<(Step, &[u8]), 
         }
         Token::Key(Keyword::Icall) => {
             keep(
-                counted(before, INSTRUCTION_LIMIT, TextLimit::Instruction),
+                count_excess(before, INSTRUCTION_LIMIT, TextLimit::Instruction),
                 left,
             )?;
             let ((func, args), rest) = called(alloc, rest)?;
             Ok((
-                Step::Inst(Inst::ICall {
+                BlockItem::Inst(Inst::ICall {
                     to: None,
                     func,
                     args,
@@ -248,15 +248,15 @@ pub fn line(alloc: Global, before: usize, text: &[u8]) -> Result<(Step, &[u8]), 
         }
         Token::Key(Keyword::Jump) => {
             let (label, rest) = name(alloc, rest)?;
-            Ok((Step::Term(Term::Jump(label)), rest))
+            Ok((BlockItem::Term(Term::Jump(label)), rest))
         }
         Token::Key(Keyword::Branch) => {
             let (term, rest) = branch(alloc, rest)?;
-            Ok((Step::Term(term), rest))
+            Ok((BlockItem::Term(term), rest))
         }
         Token::Key(Keyword::Ret) => {
             let (register, rest) = register(alloc, rest)?;
-            Ok((Step::Term(Term::Ret(register)), rest))
+            Ok((BlockItem::Term(Term::Ret(register)), rest))
         }
         _ => Err(syntax(left)),
     }

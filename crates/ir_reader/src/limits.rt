@@ -9,7 +9,7 @@ use ir_model::text_limits::{ARRAY_LIMIT, DEPTH_LIMIT, WORD_LIMIT};
 use ir_model::token::{Excess, TextLimit};
 
 /// Where so many of a kind stand before, and at most so many may.
-pub fn counted(before: usize, most: usize, limit: TextLimit) -> Option<Excess>
+pub fn count_excess(before: usize, most: usize, limit: TextLimit) -> Option<Excess>
     ensures { result ≡ lines.counted before most limit None }
 {
     if before < most {

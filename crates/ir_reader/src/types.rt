@@ -16,7 +16,7 @@ ghost use Rattle.ir_reader.specs.Spelling.{as_found};
 
 use crate::error::ReadError;
 use crate::lexer::lex;
-use crate::limits::{counted, depth_excess, keep, length_excess, or_else, word_excess};
+use crate::limits::{count_excess, depth_excess, keep, length_excess, or_else, word_excess};
 use crate::terminals::{behind_mark, mark, syntax};
 use crate::token::Token;
 use base_lists::ListVec;
@@ -39,7 +39,7 @@ fn length(text: &[u8]) -> Result<(u32, &[u8]), ReadError>
     Ok((number as u32, rest))
 }
 
-/// What the first token of a type passes that stands in so many others.
+/// What the first token of a type that stands in so many others passes.
 fn type_excess(first: Option<Excess>, around: u32) -> Option<Excess>
     ensures { result ≡ Expected.type_excess first around }
 {
@@ -188,7 +188,7 @@ fn row(alloc: Global, around: u32, text: &[u8]) -> Result<(Vec<Ty>, &[u8]), Read
     let (first, mut rest) = ty(alloc, None, around, text)?;
     types.push(first)?;
     while let Some(behind) = behind_mark(Mark::Comma, rest) {
-        let first = counted(types.len(), PARAMETER_LIMIT, TextLimit::Param);
+        let first = count_excess(types.len(), PARAMETER_LIMIT, TextLimit::Param);
         let (next, behind) = ty(alloc, first, around, behind)?;
         types.push(next)?;
         rest = behind;

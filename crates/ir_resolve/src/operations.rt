@@ -8,7 +8,7 @@ ghost use Rattle.ir_resolve.specs.Scopes.{scope_of, named_func, AreFuncNames, Ar
 use crate::lookup::{element, target};
 use crate::names::{FuncNames, Scope};
 use crate::scope::{
-    field_offset, func_number, label_number, named, register_number, register_type,
+    field_offset, func_number, label_number, named_target, register_number, register_type,
 };
 use base_lists::ListVec;
 use base_names::Name;
@@ -75,7 +75,7 @@ fn operation<'a>(
         }),
         Inst::Addr { to, of } => Ok(Operation::Addr {
             to: register_number(func, to),
-            of: named(scope, func, of),
+            of: named_target(scope, func, of),
         }),
         Inst::FAddr { to, of } => Ok(Operation::FAddr {
             to: register_number(func, to),

@@ -87,7 +87,7 @@ pub(crate) fn register_number(func: &FuncNames, name: &Name) -> usize
     func.registers.number_or_len(name)
 }
 
-/// The type of the register of a name; none where no register has it, as for u32.
+/// The type of the register of a name, or `None` where no register has it, as for u32.
 pub(crate) fn register_type<'a>(func: &FuncNames<'a>, name: &Name) -> Option<&'a Ty>
     requires { AreFuncNames func.now }
     ensures { pointee_of result ≡ resolving.type_named (named_func func.now) name.now }
@@ -118,7 +118,7 @@ pub(crate) fn func_number(scope: &Scope, name: &Name) -> u16
 }
 
 /// What `addr` names in a function: a local first.
-pub(crate) fn named(scope: &Scope, func: &FuncNames, name: &Name) -> Target
+pub(crate) fn named_target(scope: &Scope, func: &FuncNames, name: &Name) -> Target
     requires few { AreFew scope.now }
     requires names { AreFuncNames func.now }
     ensures { target_of result ≡ resolving.named_by (scope_of scope.now) (named_func func.now) name.now }

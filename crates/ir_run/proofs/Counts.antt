@@ -6,6 +6,6 @@ seen_alike f g h [] i d e l = absurd (omega arith)
 seen_alike f g h (x ∷ xs) zero d e l = cc
 seen_alike f g h (x ∷ xs) (suc i) d e l = let rest : map f xs ≡ map g (map h xs) = cc in seen_alike f g h xs i d rest (omega arith)
 
--- so is the element at a place
+-- the element at a place is seen alike too
 pub alike_at : {A B C : Type 0} (f : A → C) (g : B → C) (h : A → B) (xs : List A) (i : ℕ) (x : A) → map f xs ≡ map g (map h xs) → i < length xs → x ≡ get_or xs i x → f x ≡ g (h x)
 alike_at f g h xs i x e l at = ap f at ∙ seen_alike f g h xs i x e l ∙ ap (λ y. g (h y)) (sym at)

@@ -15,7 +15,7 @@ abbrev pub HasSmallElementHere : Frame → Here → Type 0
 HasSmallElementHere fr (Does i) = HasSmallElement fr i
 HasSmallElementHere fr (Ends t) = Unit {0}
 
--- so it is at the place of the running frame
+-- the same, of what stands at the place of the running frame
 abbrev pub HasSmallElements : Program → SourceState → Type 0
 HasSmallElements p (Running [] m) = Unit {0}
 HasSmallElements p (Running (fr ∷ rest) m) = HasSmallElementHere fr (here p fr.func fr.block fr.place)

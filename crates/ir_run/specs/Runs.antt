@@ -34,7 +34,7 @@ abbrev pub HasMade : ℕ → SourceState → Type 0
 HasMade n (Running frames m) = m.made ≤ n
 HasMade n (state.Ended e) = Unit {0}
 
--- what is so of every run: it is where its steps lead from the start, on some recorded input, and each made at most one frame
+-- what holds of every run: it is where its steps lead from the start, on some recorded input, and each made at most one frame
 pub record IsRun (r : RunState) : Type 0 where
   pub queues : List (List ℕ)
   pub checked : IsChecked r.program

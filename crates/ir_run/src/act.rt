@@ -11,7 +11,7 @@ ghost use Rattle.ir_program.specs.Seen.{operation_of, target_of};
 ghost use Rattle.ir_run.specs.Acts.{frame_of, act_of, IsEntry};
 ghost use Rattle.ir_run.specs.Elements.{HasSmallElement};
 
-use crate::arithmetic::{binary, bit, compared, number_in};
+use crate::arithmetic::{binary, bit, comparison_holds, number_in};
 use crate::frame::Frame;
 use crate::outcome::FaultKind;
 use crate::request::Act;
@@ -179,7 +179,7 @@ pub fn act<'a>(
             Ok(sets(*to, Value::Number(made)))
         }
         Operation::Cmp { op, to, a, b } => {
-            let holds = compared(
+            let holds = comparison_holds(
                 *op,
                 number_in(register(frame, *a)),
                 number_in(register(frame, *b)),

@@ -33,7 +33,7 @@ pub fn binary(op: BinOp, a: u32, b: u32) -> u32
 
 /// Whether a comparison holds of two numbers.
 #[tactic(auto, unfolding(ir_model::specs::Step::compared))]
-pub fn compared(op: CmpOp, a: u32, b: u32) -> bool
+pub fn comparison_holds(op: CmpOp, a: u32, b: u32) -> bool
     ensures { result ≡ step.compared op a b }
 {
     match op {

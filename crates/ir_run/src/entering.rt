@@ -60,7 +60,7 @@ fn cell_types<'a>(
     Ok(types)
 }
 
-/// What the cells of an object hold before they are written, the first of them these values.
+/// What the cells of an object hold before they are written; the first of them hold these values.
 ///
 /// # Errors
 ///

@@ -12,7 +12,7 @@ ghost use Rattle.ir_run.specs.Phases.{state_of};
 use crate::outcome::{SourceEnd, SourceStep};
 use crate::parts::Parts;
 use crate::reads::{FramePlace, spots};
-use crate::starting::started;
+use crate::starting::initial_parts;
 use crate::turn::turn;
 use base_lists::ListVec;
 use ir_laws::runs::{moves, registers, values};
@@ -129,7 +129,7 @@ impl<'a> SourceRun<'a> {
           taken = 0;
         }) }
     {
-        let parts = started(alloc, program, tape)?;
+        let parts = initial_parts(alloc, program, tape)?;
         frames();
         Ok(SourceRun {
             alloc,
@@ -170,7 +170,7 @@ impl<'a> SourceRun<'a> {
     }
 
     /// How many steps were answered so far.
-    pub fn taken(&self) -> u64
+    pub fn step_count(&self) -> u64
         ensures { result ≡ self.now.taken }
     {
         self.taken
@@ -183,7 +183,7 @@ impl<'a> SourceRun<'a> {
         self.program
     }
 
-    /// Where each frame stands, the running one first; none where the run has ended.
+    /// Where each frame stands, the running one first. There is no frame where the run has ended.
     ///
     /// # Errors
     ///
@@ -197,7 +197,7 @@ impl<'a> SourceRun<'a> {
         }
     }
 
-    /// What the registers of the running frame hold, by their numbers; none where the run has ended.
+    /// What the registers of the running frame hold, by their numbers. There is no register where the run has ended.
     pub fn registers(&self) -> &[Value]
         ensures { map value_of result.now ≡ registers_of (frames_of self.now.state) }
     {

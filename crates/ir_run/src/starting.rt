@@ -43,7 +43,7 @@ fn initial_contents<'a>(
 ///
 /// There is no memory for it.
 #[tactic(auto, unfolding(ir_model::specs::State::start))]
-pub fn started(alloc: Global, program: &Program, tape: Tape) -> Result<Parts, AllocError>
+pub fn initial_parts(alloc: Global, program: &Program, tape: Tape) -> Result<Parts, AllocError>
     requires { HasCounts program.now }
     ensures { IfOk result (λ s. running_of s ≡ state.start (program_of program.now) tape) }
 {

@@ -1,4 +1,4 @@
--- The canonical text of a firmware is one of its texts.
+-- A firmware has its canonical text among its texts.
 use Rattle.std.proofs.Common.{List, [], ◌∷◌, flat_map}
 use Rattle.std.proofs.lemmas.Str.{IsUtf8-from_ascii}
 use Rattle.ir_model.specs.Plain.{PlainFirmware}

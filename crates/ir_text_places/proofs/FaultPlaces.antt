@@ -1,4 +1,4 @@
--- Where the checks stand that fail: each names something of the firmware.
+-- The places of the checks that fail: each names something of the firmware.
 use Rattle.std.proofs.Common.{◌≡◌, ◌≤◌, ◌⊎◌, inl, inr, ℕ, suc, ◌+◌, List, [], ◌∷◌, ◌++◌, length, map, Bool, true, false, Option, Some, None, refl, subst, arith, nat_le}
 use Rattle.base_laws.specs.Lists.{Each}
 use Rattle.base_laws.proofs.Lists.{each_both}

@@ -19,7 +19,7 @@ count ls = length (joined ls)
 abbrev pub file_line : PlainFile → Line
 file_line f = plain (Key key.File) ∷ name f.name ∷ plain (Sign OpenBrace) ∷ []
 
--- the lines of files before the function of this number, the functions of all files counted through; all lines, where there are not so many
+-- the lines of files before the function of this number among those of all files; all lines, where there are no more functions than this number
 abbrev pub func_before : (number : ℕ) → List PlainFile → List Line
 func_before k [] = []
 func_before k (f ∷ fs) =

@@ -4,7 +4,7 @@ ghost use Rattle.std.specs.Prelude.{◌≡◌, ◌*◌, map, length, take, IfOk,
 ghost use Rattle.ir_model.specs.Plain.{binding_of, struct_of, global_of, firmware_of};
 ghost use Rattle.ir_text_places.specs.Sizes as sizes;
 
-use crate::types::{add, closed, type_size};
+use crate::types::{add, closed_row_size, type_size};
 use ir_model::firmware::{Binding, Cell, Firmware, Global as GlobalDecl, Peripheral, StructDecl};
 use std::alloc::AllocError;
 
@@ -37,7 +37,7 @@ fn struct_size(decl: &StructDecl) -> Result<u64, AllocError>
     ensures { IfOk result (λ n. n ≡ sizes.struct_size (struct_of decl.now)) }
 {
     let fields = bindings_size(decl.fields.as_slice())?;
-    add(3, closed(fields))
+    add(3, closed_row_size(fields))
 }
 
 /// The tokens of structs.

@@ -5,7 +5,7 @@ ghost use Rattle.ir_model.specs.Plain.{func_of, file_of};
 ghost use Rattle.ir_text_places.specs.Sizes as sizes;
 
 use crate::declarations::bindings_size;
-use crate::types::{add, closed, result_size};
+use crate::types::{add, closed_row_size, result_size};
 use base_names::Name;
 use ir_model::firmware::{Block, FileDecl, Func, Inst, Term};
 use std::alloc::AllocError;
@@ -33,7 +33,7 @@ fn call_size(to: &Option<Name>, args: &[Name]) -> Result<u64, AllocError>
     ensures { IfOk result (λ n. n ≡ sizes.call_size to.now args.now) }
 {
     let args = arguments_size(args)?;
-    let called = add(2, closed(args))?;
+    let called = add(2, closed_row_size(args))?;
     add(kept_size(to), called)
 }
 
@@ -104,7 +104,7 @@ fn head_size(func: &Func) -> Result<u64, AllocError>
 {
     let params = bindings_size(func.params.as_slice())?;
     let outcome = result_size(&func.result)?;
-    let behind = add(closed(params), outcome)?;
+    let behind = add(closed_row_size(params), outcome)?;
     add(4, behind)
 }
 

@@ -13,11 +13,11 @@ pub enum Item {
     Global(usize),
     /// A file.
     File(usize),
-    /// A function, the functions of all files counted through.
+    /// A function by its number among those of all files.
     Func(usize),
     /// An instruction, or a block's end, which has the number behind the instructions.
     Code {
-        /// The function, the functions of all files counted through.
+        /// The function by its number among those of all files.
         func: usize,
         /// The block of the function.
         block: usize,

@@ -1,4 +1,4 @@
-//! Where in the text of a firmware the item whose check fails stands.
+//! The place in a firmware's text of the item whose check fails.
 #![tactic(auto)]
 
 mod before;

@@ -22,7 +22,7 @@ pub fn add(a: u64, b: u64) -> Result<u64, AllocError>
 }
 
 /// How many tokens a row of parts has with its closing mark, by those of the parts, each with what stands behind it.
-pub fn closed(parts: u64) -> u64
+pub fn closed_row_size(parts: u64) -> u64
     ensures { result ≡ sizes.closed parts }
 {
     if parts == 0 { 1 } else { parts }
@@ -43,7 +43,7 @@ pub fn type_size(ty: &Ty) -> Result<u64, AllocError>
         Ty::Callee(signature) => {
             let params = row_size(signature.params.as_slice())?;
             let outcome = boxed_size(&signature.result)?;
-            add(2, add(closed(params), outcome)?)
+            add(2, add(closed_row_size(params), outcome)?)
         }
     }
 }

@@ -78,7 +78,7 @@ impl Bus {
         requires queues { length tape ≡ length image.now.windows }
         ensures { IfOk result (λ bus. bus ≡ memory.filled image.now tape fill) }
     {
-        let image = image.copied(alloc)?;
+        let image = image.copy(alloc)?;
         let ram = vec![in alloc; fill; image.ram_size as usize]?;
         Ok(Bus { image, ram, tape })
     }
@@ -163,7 +163,7 @@ impl Bus {
         }
     }
 
-    /// The byte of flash or RAM at an address; none exactly where neither holds it.
+    /// The byte of flash or RAM at an address, and `None` exactly where neither holds it.
     pub fn byte(&self, addr: u32) -> Option<u8>
         ensures { result ≡ memory.byte_at (places.location self.now.image addr) self.now.image self.now.ram }
     {

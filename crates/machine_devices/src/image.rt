@@ -52,7 +52,7 @@ pub struct Image {
 
 impl Window {
     /// An equal window.
-    pub fn copied(&self, alloc: Global) -> Result<Window, AllocError>
+    pub fn copy(&self, alloc: Global) -> Result<Window, AllocError>
         ensures { IfOk result (λ window. window ≡ self.now) }
     {
         let name = Vec::from_slice(alloc, self.name.as_slice())?;
@@ -66,7 +66,7 @@ impl Window {
 
 impl Image {
     /// An equal image.
-    pub fn copied(&self, alloc: Global) -> Result<Image, AllocError>
+    pub fn copy(&self, alloc: Global) -> Result<Image, AllocError>
         ensures { IfOk result (λ image. image ≡ self.now) }
     {
         let flash = Vec::from_slice(alloc, self.flash.as_slice())?;
@@ -91,7 +91,7 @@ fn copied_windows(alloc: Global, windows: &[Window]) -> Result<Vec<Window>, Allo
 {
     let mut copies = Vec::new(alloc);
     for window in windows {
-        copies.push(window.copied(alloc)?)?;
+        copies.push(window.copy(alloc)?)?;
     }
     Ok(copies)
 }

@@ -129,8 +129,8 @@ impl Tape {
         queue.push(word)
     }
 
-    /// Takes the first word of a queue; none exactly where that queue is empty. Takes no memory,
-    /// and constant time.
+    /// Takes the first word of a queue, and answers `None` exactly where that queue is empty. Takes no
+    /// memory, and constant time.
     pub fn take(&mut self, queue: u32) -> Option<u32>
         requires { queue < length self.old }
         ensures word { result ≡ slice_get (input.queue self.old queue) 0 }
@@ -141,8 +141,8 @@ impl Tape {
         queue.take()
     }
 
-    /// The tape of a text: one queue of words for each window, by its name. A line is blank, or a
-    /// window's name and a number; a comment runs from `#` to the end of its line.
+    /// The tape of a text, with a queue of words per window, found by the window's name. A line is blank, or has the
+    /// name of a window and a number; what stands from `#` on in a line is a comment.
     ///
     /// # Errors
     ///

@@ -11,7 +11,7 @@ use Rattle.machine_model.specs.State.{by_mpu, is_unprivileged}
 use Rattle.machine_emulator.specs.Known.{IsPermitted, AreKnown}
 use Rattle.machine_emulator.proofs.Alike.{permits_alike}
 
--- of nothing all is known
+-- all that is kept is known where nothing is kept
 pub nothing_known : (m : Registers) (u : Bool) (kind : Access) → AreKnown m u kind (replicate 32 0xFFFFFFFF)
 nothing_known m u kind = record {
   room = length-replicate {A = ℕ} 32 0xFFFFFFFF;

@@ -45,7 +45,7 @@ answer t = answer_by t.to.ending t.event
 abbrev pub Accepts : {G : Type 0} (calls : G → Event → Bool → G → Type 0) → G → List Event → G → Type 0
 Accepts calls f es g = FoldsTo (λ p e q. calls p e true q) f es g
 
--- all that so many steps tell, it accepts
+-- it accepts all that so many steps tell
 abbrev pub AcceptsAll : {G : Type 0} (calls : G → Event → Bool → G → Type 0) → Image → (steps : ℕ) → State → G → G → Type 0
 AcceptsAll calls i n s f g = Accepts calls f (events (step i) (event i) n s) g
 
@@ -59,7 +59,7 @@ pub record RefusesLast {G : Type 0} (calls : G → Event → Bool → G → Type
   pub accepts : AcceptsAll calls i before s f between
   pub refuses : calls between refused false g
 
--- what the answer of a run says, of which so many steps ran from one state to another
+-- what the answer says of a run of so many steps from one state to another
 abbrev pub IsEndOf : {G : Type 0} (calls : G → Event → Bool → G → Type 0) → Image → (limit steps : ℕ) → (old new : State) → G → G → End → Type 0
 IsEndOf calls i limit n s t f g (Halt k) = (t.ending ≡ Some (Halt k)) × AcceptsAll calls i n s f g
 IsEndOf calls i limit n s t f g InputEnd = (t.ending ≡ Some InputEnd) × AcceptsAll calls i n s f g

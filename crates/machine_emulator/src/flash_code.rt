@@ -23,7 +23,7 @@ pub struct Decoded {
 pub struct FlashCode {
     /// The first address of flash.
     pub base: u32,
-    /// One for each halfword but the last, none where no instruction begins; empty where the memory for them was refused.
+    /// One for each halfword but the last, and `None` where no instruction begins; the list is empty where the memory for it was refused.
     pub instructions: Vec<Option<Decoded>>,
 }
 

@@ -74,7 +74,7 @@ impl Model for Guard {
 }
 
 impl Guard {
-    /// With nothing known.
+    /// A guard that knows nothing yet.
     #[tactic(auto, using(crate::proofs::Kept::kept_rules))]
     pub fn new(protection: ProtectionState) -> Guard
         ensures { result ≡ protection }

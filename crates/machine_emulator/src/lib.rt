@@ -154,9 +154,9 @@ impl Machine {
         }
     }
 
-    /// Runs at most so many steps, and calls back once with each event of these steps, in order. `Limit` where all
-    /// of them ran, the machine has not ended, and no event was refused; `Refused` where the callback answered
-    /// false, and the step of that event is the last; neither of the two ends the machine. Else the answer is the
+    /// Runs at most so many steps, and calls back with their events, with each one time and in their order. `Limit`
+    /// where all of them ran, the machine has not ended, and no event was refused; `Refused` where the callback
+    /// answered false, on the event of the last step; neither of the two ends the machine. Else the answer is the
     /// machine's end.
     pub fn run<G: FnMut(&Event) -> bool>(&mut self, n: u64, each: &mut G) -> End
         requires { G.IsAlwaysCallable each.old }
@@ -179,7 +179,7 @@ impl Machine {
         }
     }
 
-    /// Register r0 to r15 (B1.4.7). r15 is the address of the next instruction; after an end, of the one that ended.
+    /// Register r0 to r15 (B1.4.7). r15 is where the next instruction stands; after an end, where the one that ended stands.
     pub fn reg(&self, k: u8) -> u32
         requires { k < 16 }
         ensures { result ≡ state.register self.now.state.core k }
@@ -187,7 +187,7 @@ impl Machine {
         self.parts.core.register(k)
     }
 
-    /// The byte of flash or RAM at an address; none exactly where neither holds it.
+    /// The byte of flash or RAM at an address, and `None` exactly where neither holds it.
     pub fn byte(&self, addr: u32) -> Option<u8>
         ensures { result ≡ byte_at (location self.now.image addr) self.now.image self.now.state.ram }
     {

@@ -7,7 +7,7 @@ ghost use Rattle.machine_emulator.specs.Parts.{left, does};
 
 use crate::parts::Parts;
 use base_events::event::Event;
-use base_words::operations::{add, moved};
+use base_words::operations::{add, moved_address};
 use machine_thumb::table::Instr;
 
 impl Parts {
@@ -151,7 +151,7 @@ impl Parts {
         if op == 0 {
             self.call(next)
         } else {
-            self.go_on(moved(next + 2, offset))
+            self.go_on(moved_address(next + 2, offset))
         }
     }
 

@@ -12,7 +12,7 @@ use crate::data::{
 use crate::parts::Parts;
 use base_events::event::Event;
 use base_words::conditions::{compare_flags, holds};
-use base_words::operations::{add, moved, signed_quotient, unsigned_quotient};
+use base_words::operations::{add, moved_address, signed_quotient, unsigned_quotient};
 use machine_thumb::table::Instr;
 
 impl Parts {
@@ -122,7 +122,7 @@ impl Parts {
             ≡ does (act (Instr.BranchConditional cond offset) next self.old.core) self.old }
     {
         self.core.pc = if holds(u32::from(cond), self.core.flags) {
-            moved(next + 2, offset)
+            moved_address(next + 2, offset)
         } else {
             next
         };
@@ -137,7 +137,7 @@ impl Parts {
             ≡ does (act (Instr.BranchLink offset) next self.old.core) self.old }
     {
         self.core.lr = next + 1;
-        self.core.pc = moved(next, offset);
+        self.core.pc = moved_address(next, offset);
         None
     }
 
@@ -147,7 +147,7 @@ impl Parts {
         ensures { left self.new result
             ≡ does (act (Instr.BranchWide offset) next self.old.core) self.old }
     {
-        self.core.pc = moved(next, offset);
+        self.core.pc = moved_address(next, offset);
         None
     }
 

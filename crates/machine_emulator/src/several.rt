@@ -187,7 +187,7 @@ impl Parts {
         }
     }
 
-    /// Loads so many words; none where a fault is taken, or the machine stops.
+    /// Loads so many words, and answers `None` where a fault is taken, or the machine stops.
     #[tactic(auto, unfolding(machine_model::specs::Perform::perform))]
     fn load_words(&mut self, address: u32, count: u8) -> Option<Words>
         requires aligned { self.old.core.sp % 4 ≡ 0 }

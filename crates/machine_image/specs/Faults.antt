@@ -1,5 +1,5 @@
--- The checks of an image file, in the order in which they are made: field by field, each for being there whole and then
--- for its rule. A rule of a base that needs the size behind it is checked once that size is there and keeps its own rule.
+-- The checks of an image file, in the order in which they are made: field by field, first that the field is there whole
+-- and then that it keeps its rule. A rule of a base that needs the size behind it is checked once that size is there and keeps its own rule.
 use Rattle.std.specs.Prelude.{◌≡◌, ℕ, zero, suc, ◌+◌, ◌%◌, ◌^◌, ◌<◌, List, [], ◌∷◌, ◌++◌, length, Bool, not, ◌&&◌, ◌||◌, Option, Some, None, Result, Ok, Err, nat_eq, nat_le, if◌then◌else◌, slice_range, slice_index, ◌⊎◌}
 use Rattle.std.specs.List.{list_any, list_all}
 use Rattle.std.specs.Str.{bytes_eq}

@@ -36,7 +36,7 @@ memory_bytes i = word_bytes i.flash_base ++ word_bytes (length i.flash) ++ word_
 abbrev pub place_bytes : Image → List ℕ
 place_bytes i = word_bytes i.monitor ++ word_bytes i.stack_base ++ word_bytes i.stack_size
 
--- the fields that each version has, the number of windows the last
+-- the fields that each version has; the last is the number of windows
 abbrev pub header_bytes : Image → List ℕ
 header_bytes i = magic ++ word_bytes (version i.regions i.closed) ++ memory_bytes i ++ place_bytes i ++ word_bytes (length i.windows)
 

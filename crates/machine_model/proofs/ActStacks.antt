@@ -26,7 +26,7 @@ MaybeStays c (Some d) = KeepsStacks c d
 abbrev pub IsCall : Instr → Type 0
 IsCall x = (imm8 : ℕ) × (offset : ℤ) × (x ≡ CallBranch 0 imm8 offset)
 
--- of an act of these registers with this next address, where only such an instruction calls
+-- an act of these registers with this next address keeps the stacks, where only such an instruction calls
 abbrev pub ActKeeps : (call : Type 0) → CoreRegisters → (next : ℕ) → Act → Type 0
 ActKeeps Q c next (Changes d) = KeepsStacks c d
 ActKeeps Q c next (Loads w a go) = IsAccessWidth w × ((v : ℕ) → KeepsStacks c (go v))

@@ -16,7 +16,7 @@ use Rattle.machine_devices.specs.Rules.{ObeysRules}
 use Rattle.machine_model.specs.Code.{size, HoldsHalf, HoldsCode, Lies}
 use Rattle.machine_thumb.specs.Bytes.{bytes_of_code, code_bytes}
 use Rattle.machine_thumb.proofs.Codes.{zero_or_one}
-use Rattle.machine_model.specs.CodeBytes.{HoldsBytes, BytesAreCode}
+use Rattle.machine_model.specs.CodeBytes.{FlashHasBytes, BytesAreCode}
 use Rattle.machine_model.proofs.Exec.{HasForm, encode_form}
 
 -- ---- halfwords fit
@@ -62,7 +62,7 @@ holds_half : (i : Image) (o h : ℕ) → ObeysRules i → o + 2 ≤ length i.fla
 unfolding read
 holds_half i o h r room f a b = record { offset = o; is_in_flash = in_flash i o r (omega arith); is_half = rw (a, b) (omega arith) }
 
-holds_code : (i : Image) (o : ℕ) (c : Code) → ObeysRules i → HalvesFit c → HoldsBytes i o (bytes_of_code c) → HoldsCode i (i.flash_base + o) c
+holds_code : (i : Image) (o : ℕ) (c : Code) → ObeysRules i → HalvesFit c → FlashHasBytes i o (bytes_of_code c) → HoldsCode i (i.flash_base + o) c
 holds_code i o (Half h) r f b =
     let z : o + 0 ≡ o = omega arith in
     holds_half i o h r b.fits f (rw z at (b.holds 0 (omega arith))) (b.holds 1 (omega arith))
@@ -75,13 +75,13 @@ holds_code i o (Pair h k) r f b =
       rw w (holds_half i (o + 2) k r (omega arith) f.1 (b.holds 2 (omega arith)) (rw y (b.holds 3 (omega arith)))),
     )
 
-pub bytes_first : (i : Image) (o : ℕ) (xs ys : List ℕ) → HoldsBytes i o (xs ++ ys) → HoldsBytes i o xs
+pub bytes_first : (i : Image) (o : ℕ) (xs ys : List ℕ) → FlashHasBytes i o (xs ++ ys) → FlashHasBytes i o xs
 bytes_first i o xs ys h =
     let e = length-append xs ys in
     let r = h.fits in
     record { fits = omega arith; holds = λ k l. h.holds k (omega arith) ∙ get_or-append xs ys 0 k l }
 
-bytes_rest : (i : Image) (o : ℕ) (xs ys : List ℕ) → HoldsBytes i o (xs ++ ys) → HoldsBytes i (o + length xs) ys
+bytes_rest : (i : Image) (o : ℕ) (xs ys : List ℕ) → FlashHasBytes i o (xs ++ ys) → FlashHasBytes i (o + length xs) ys
 bytes_rest i o xs ys h =
     let e = length-append xs ys in
     let r = h.fits in

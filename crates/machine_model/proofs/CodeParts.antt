@@ -70,7 +70,7 @@ width-encode (Divide op n d m) = refl
 width-encode (SpecialRegister op n d s) = pair_or (nat_eq op 0) _ _ _ _
 width-encode (Barrier op) = refl
 
--- and so are those of code
+-- the bytes of code are as many as its size
 pub length-code_bytes : (xs : List Instr) → length (code_bytes xs) ≡ code_size xs
 length-code_bytes [] = refl
 length-code_bytes (x ∷ xs) =

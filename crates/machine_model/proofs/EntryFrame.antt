@@ -1,4 +1,4 @@
--- The frame that an entry pushes lies in RAM, its words one behind the other.
+-- The frame that an entry pushes lies in RAM, with its words one behind the other.
 use Rattle.std.proofs.Common.{◌≡◌, ℕ, zero, suc, ◌+◌, ◌*◌, ◌%◌, ◌≤◌, true, inr, refl, sym, ap, subst, arith}
 use Rattle.std.proofs.lemmas.Bool.{false≢true}
 use Rattle.base_words.specs.Arithmetic.{word}

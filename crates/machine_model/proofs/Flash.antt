@@ -94,7 +94,7 @@ verdict_in_system : (j : PermissionTest) (p : ProtectionState) (kind : Access) (
 unfolding verdict
 verdict_in_system j p kind w a e = tested_in_system (nat_eq (a % w) 0) (in_system a) (is_unprivileged p) (nat_eq w 4 && is_system_register a) (j p kind a) e
 
--- of several words, each goes to memory or to the system control space
+-- each of several words goes to memory or to the system control space
 first_good : (v : Verdict) (memory : Bool) (a : ℕ) (vs : Verdicts) → and_then v memory a vs ≡ AllGood → ((memory ≡ true) ⊎ (v ≡ ToSystem)) × (vs ≡ AllGood)
 first_good ToBus true a vs e = (inl refl, e)
 first_good ToBus false a vs e = cc

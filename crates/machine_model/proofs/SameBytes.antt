@@ -51,7 +51,7 @@ write_hits (suc w) o v m n k l f h =
 pub put_lengths : (p : Location) (w v : ℕ) (m n : List ℕ) → length n ≡ length m → length (put_at p w v n) ≡ length (put_at p w v m)
 put_lengths p w v m n l = length-put_at p w v n ∙ l ∙ sym (length-put_at p w v m)
 
--- a byte that is the same stays so, and a byte that is written becomes so
+-- a byte that is the same in both stays the same, and a byte that is written becomes the same
 pub put_keeps : (p : Location) (w v : ℕ) (m n : List ℕ) (k : ℕ) → length n ≡ length m → get_or n k 0 ≡ get_or m k 0 → get_or (put_at p w v n) k 0 ≡ get_or (put_at p w v m) k 0
 put_keeps (InRam o) w v m n k l h = write_keeps w o v m n k l h
 put_keeps (InFlash o) w v m n k l h = h

@@ -47,7 +47,7 @@ tested_system true true false false al e = cc
 tested_system true false u r false e = cc
 tested_system true false u r true e = cc
 
--- of a word of a frame that may be accessed
+-- the tests of a word of a frame that may be accessed
 pub open_tests : (x y z : Bool) → (x && y) && z ≡ true → (x ≡ true) × (y ≡ true) × (z ≡ true)
 open_tests true true z e = (refl, refl, e)
 open_tests true false z e = absurd (false≢true e)
@@ -77,7 +77,7 @@ module _ (j : PermissionTest) (p : ProtectionState) (kind : Access) where
       let t = tested_system (nat_eq (a % w) 0) (in_system a) (is_unprivileged p) (nat_eq w 4 && is_system_register a) (j p kind a) e in
       (aligned_by w a t.0, record { within = t.1; privileged = t.2; register = (and_parts (nat_eq w 4) (is_system_register a) t.3).1 })
 
-  -- so it is none of unprivileged code
+  -- no access of unprivileged code goes to the system
   pub verdict_system : (w a : ℕ) → is_unprivileged p ≡ true → verdict j p kind w a ≡ ToSystem → ⊥
   verdict_system w a user e =
       let privileged = (verdict_to_system w a e).1.privileged in

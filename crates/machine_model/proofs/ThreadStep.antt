@@ -177,7 +177,7 @@ module _ (i : Image) (s : State) (user : is_unprivileged s.protection ≡ true) 
   abbrev IsCallHere : ℕ → Type 0
   IsCallHere next = (n : ℕ) × (n < 256) × IsFetched by_mpu i s (0xDF00 + n) × (next ≡ s.core.pc + 2)
 
-  -- of an instruction whose plain steps are thread steps
+  -- an instruction whose plain steps are thread steps
   module _ (goes : (t : Turn) → Plain i s t → ThreadStep i s t) where
     core_goes : (c : CoreRegisters) → KeepsStacks s.core c → ThreadStep i s (calm (with_core s c))
     core_goes c h = goes _ (record { stores = tt; loads = tt; stacks = h; protection = refl; status = refl; ending = refl; ram = λ k m. refl })

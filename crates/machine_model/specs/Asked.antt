@@ -46,7 +46,7 @@ pub record IsRefused (j : PermissionTest) (p : ProtectionState) (kind : Access) 
   pub outside : in_system x.address ≡ false
   pub refused : j p kind x.address ≡ false
 
--- permitted, and in memory that takes such an access
+-- the access is permitted, and goes to memory that takes such an access
 pub record IsInMemory (j : PermissionTest) (i : Image) (p : ProtectionState) (kind : Access) (x : Touched) : Type 0 where
   pub outside : in_system x.address ≡ false
   pub permitted : j p kind x.address ≡ true
@@ -63,13 +63,13 @@ pub record IsInOrder (j : PermissionTest) (i : Image) (p : ProtectionState) (kin
   pub aligned : x.address % x.width ≡ 0
   pub reached : IsInMemory j i p kind x ⊎ IsPrivilegedPlace p x
 
--- this is the address of the first of these accesses that is refused, all before it being in order
+-- this is the address of the first of these accesses that is refused, and all before it are in order
 abbrev pub IsFirstRefused : PermissionTest → Image → ProtectionState → Access → List Touched → (address : ℕ) → Type 0
 IsFirstRefused j i p kind [] y = ⊥
 IsFirstRefused j i p kind (x ∷ xs) y =
     ((y ≡ x.address) × IsRefused j p kind x) ⊎ (IsInOrder j i p kind x × IsFirstRefused j i p kind xs y)
 
--- of the accesses of an act, which are loads or stores and not both
+-- the first refused access of an act, whose accesses are loads or stores and not both
 abbrev pub RefusesFirst : PermissionTest → Image → State → Act → (address : ℕ) → Type 0
 RefusesFirst j i s x y = IsFirstRefused j i s.protection Read (asked_loads s x) y ⊎ IsFirstRefused j i s.protection Write (asked_stores x) y
 
@@ -103,7 +103,7 @@ pub data DoesAct (j : PermissionTest) (i : Image) (s : State) (x : Act) (t : Tur
   Faulted : (address : ℕ) → RefusesFirst j i s x address → s.protection.handler ≡ false → is_fault_enabled s.status ≡ true → is_frame_open j i s ≡ true →
       t ≡ entered true i mem_manage s.core.pc (data_status address s.status) s → DoesAct j i s x t
 
--- of the instruction that was fetched, whatever it is, and of one that stands at the program counter
+-- this holds of the instruction that was fetched, whatever it is, and of one that stands at the program counter
 abbrev pub TakenActsAreDone : Type 0
 TakenActsAreDone =
     (j : PermissionTest) (i : Image) (s : State) (x : Instr) (next : ℕ) → s.ending ≡ None → IsTaken j i s x next →

@@ -53,7 +53,7 @@ immediate op x n f =
     else if nat_eq op 2 then sum x n 0
     else sum x (inverted n) 1
 
--- the sixteen operations on two registers, the first being the destination
+-- the sixteen operations on two registers, of which the first is the destination
 abbrev pub operation : (op x y : ℕ) → Flags → Outcome
 operation op x y f =
     if nat_eq op 0 then logical f (bit_and x y)

@@ -14,7 +14,7 @@ pub record StepsWith (j : PermissionTest) (i : Image) (s t : State) (e : Event) 
   pub leads : next j i s ≡ t
   pub tells : event_of j i s ≡ Some e
 
--- of a load whose word was this, and of a store of this value
+-- the events of a load whose word was this, and of a store of this value
 abbrev pub input_event : Image → (ram : List ℕ) → (periph offset width value : ℕ) → Event
 input_event i ram k o w v = record { compartment = compartment_of i ram; periph = k; offset = o; width = w; write = false; value = cut w v }
 

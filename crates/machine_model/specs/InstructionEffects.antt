@@ -164,6 +164,6 @@ module _ (j : PermissionTest) (i : Image) (x : Context) (low : List ℕ) (sp lr 
         (works (record x { high = set x.high 4 e; on_psp = false; protection = record x.protection { handler = false } }) (set (set (set (set low 0 a) 1 b) 2 c) 3 d)
         (with_pad (nat_eq (status / 2 ^ 9 % 2) 1) (word (sp + 32))) link (ret / 2 * 2) (flags_of status) ram queues)
 
--- in each such state
+-- the same in each such state
 abbrev pub EachWorks : (PermissionTest → Image → Context → List ℕ → ℕ → ℕ → ℕ → Flags → List ℕ → List (List ℕ) → Type 0) → Type 0
 EachWorks P = (j : PermissionTest) (i : Image) (x : Context) (low : List ℕ) (sp lr pc : ℕ) (f : Flags) (ram : List ℕ) (queues : List (List ℕ)) → P j i x low sp lr pc f ram queues

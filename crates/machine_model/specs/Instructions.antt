@@ -51,7 +51,7 @@ transfer op t a next c =
     else if nat_eq op 6 then load_into t 1 a next c
     else load_half_signed t a next c
 
--- STR LDR STRB LDRB STRH LDRH, the number counting widths
+-- STR LDR STRB LDRB STRH LDRH, whose number counts widths
 abbrev pub transfer_immediate : (op number base register : ℕ) → (next : ℕ) → CoreRegisters → Act
 transfer_immediate op k b t next c =
     if nat_eq op 0 then store_from t 4 (word (b + 4 * k)) next c
@@ -61,7 +61,7 @@ transfer_immediate op k b t next c =
     else if nat_eq op 4 then store_from t 2 (word (b + 2 * k)) next c
     else load_into t 2 (word (b + 2 * k)) next c
 
--- STR and LDR from the stack pointer, and its sum with a number, counting words
+-- STR and LDR from the stack pointer, and its sum with a number, which counts words
 abbrev pub stack_relative : (op t d number : ℕ) → (next : ℕ) → CoreRegisters → Act
 stack_relative op t d k next c =
     if nat_eq op 0 then store_from t 4 (word (c.sp + 4 * k)) next c

@@ -48,7 +48,7 @@ CodeHasParts =
     (i : Image) (xs ys : List Instr) (pc : ℕ) →
     (CodeIn i pc (xs ++ ys) → CodeIn i pc xs × CodeIn i (pc + code_size xs) ys) × (CodeIn i pc xs → CodeIn i (pc + code_size xs) ys → CodeIn i pc (xs ++ ys))
 
--- so is code that may run, and its size, an even number of bytes, is the sum of theirs
+-- code that may run is its parts too, and its size, an even number of bytes, is the sum of theirs
 abbrev pub StandingCodeHasParts : Type 0
 StandingCodeHasParts =
     (j : PermissionTest) (i : Image) (p : ProtectionState) (xs ys : List Instr) (pc : ℕ) →
@@ -104,7 +104,7 @@ module _ (j : PermissionTest) (i : Image) (c : CoreRegisters) (p : ProtectionSta
     pub faults_store : (w a v o : ℕ) (d : CoreRegisters) → act x (c.pc + size x) c ≡ Stores w a v d → verdict j p Write w a ≡ Refused →
         p.handler ≡ false → is_fault_enabled t ≡ true → ExceptionFrame j i p c.sp o →
         LeadsTo (live (entry_core i mem_manage c) (record p { handler = true }) (data_status a t) (write_all 4 o (frame_of c c.pc) ram) queues)
-    -- of several words, the first that is refused
+    -- the first of several words that is refused
     pub faults_loads : (a n y o : ℕ) (go : List ℕ → Option CoreRegisters) → act x (c.pc + size x) c ≡ LoadsMany a n go → verdicts j i p Read a n ≡ RefusedAt y →
         p.handler ≡ false → is_fault_enabled t ≡ true → ExceptionFrame j i p c.sp o →
         LeadsTo (live (entry_core i mem_manage c) (record p { handler = true }) (data_status y t) (write_all 4 o (frame_of c c.pc) ram) queues)
@@ -120,6 +120,6 @@ module _ (j : PermissionTest) (i : Image) (c : CoreRegisters) (p : ProtectionSta
     pub returns_to_msp : (o : ℕ) → act x (c.pc + size x) c ≡ Exchanges return_on_msp → p.handler ≡ true → Words i c.sp o 8 → May j (record p { handler = false }) Read c.sp 8 →
         is_thread (get_or (words_at 8 o ram) 7 0) ≡ true → LeadsTo (live (unstacked false c c.sp (words_at 8 o ram)) (record p { handler = false }) t ram queues)
 
--- in each state, for each instruction
+-- the same in each state, for each instruction
 abbrev pub EachLive : (PermissionTest → Image → CoreRegisters → ProtectionState → FaultStatus → List ℕ → List (List ℕ) → Instr → Type 0) → Type 0
 EachLive P = (j : PermissionTest) (i : Image) (c : CoreRegisters) (p : ProtectionState) (t : FaultStatus) (ram : List ℕ) (queues : List (List ℕ)) (x : Instr) → P j i c p t ram queues x

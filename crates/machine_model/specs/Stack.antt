@@ -8,7 +8,7 @@ use Rattle.machine_model.specs.declared.state.ProtectionState.{ProtectionState}
 use Rattle.machine_model.specs.State.{PermissionTest}
 use Rattle.machine_model.specs.Exceptions.{frame_at}
 
--- so many words from an address on lie in RAM, the first this many bytes behind RAM's base
+-- so many words from an address on lie in RAM, and the first lies this many bytes behind RAM's base
 pub record Words (i : Image) (address offset count : ℕ) : Type 0 where
   pub is_at : i.ram_base + offset ≡ address
   pub aligned : address % 4 ≡ 0
@@ -29,7 +29,7 @@ abbrev pub AreWords : List ℕ → Type 0
 AreWords [] = Unit {0}
 AreWords (v ∷ vs) = (v < 2 ^ 32) × AreWords vs
 
--- each of them may be accessed so
+-- each of them permits this access
 abbrev pub May : PermissionTest → ProtectionState → Access → (address count : ℕ) → Type 0
 May j p kind a n = (k : ℕ) → k < n → j p kind (a + 4 * k) ≡ true
 

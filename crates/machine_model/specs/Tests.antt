@@ -25,7 +25,7 @@ unfoldable pub verdict : PermissionTest → ProtectionState → Access → (widt
 verdict j p kind w a =
     tested (nat_eq (a % w) 0) (in_system a) (is_unprivileged p) (nat_eq w 4 && is_system_register a) (j p kind a)
 
--- of several words all are tested first, in rising order; none of them may go to a window
+-- all of several words are tested first, in rising order; none of them may go to a window
 abbrev pub and_then : Verdict → (memory : Bool) → (address : ℕ) → Verdicts → Verdicts
 and_then ToBus true a v = v
 and_then ToBus false a v = BadOne Bus

@@ -45,7 +45,7 @@ pub enum Fetched {
     NotMapped,
 }
 
-/// What an instruction makes that computes in registers.
+/// What an instruction that computes in registers makes.
 #[derive(Clone, Copy)]
 pub enum Outcome {
     /// A value for the destination, and the flags.

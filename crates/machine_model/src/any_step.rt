@@ -38,8 +38,8 @@ pub fn listed_stores()
 {}
 
 /// The turn of an instruction stores and loads what it asks for, in that order, or nothing where it ends the
-/// machine, or it is an exception's entry: of the SVC, or of its first refused access. So is each instruction that
-/// was fetched, and each that stands at the program counter.
+/// machine, or it is an exception's entry: of the SVC, or of its first refused access. This holds of each instruction
+/// that was fetched, and of each that stands at the program counter.
 pub fn performed_accesses()
     ensures of_taken { TakenActsAreDone }
     ensures of_standing { StandingActsAreDone }

@@ -92,7 +92,7 @@ impl Model for HandlerControl {
 }
 
 impl HandlerControl {
-    /// With nothing enabled.
+    /// The register with nothing enabled.
     fn empty() -> HandlerControl
         ensures { result ≡ 0 }
     {
@@ -142,7 +142,7 @@ impl Model for FaultCauses {
 }
 
 impl FaultCauses {
-    /// With no cause.
+    /// The register with no cause.
     fn empty() -> FaultCauses
         ensures { result ≡ 0 }
     {
@@ -158,7 +158,7 @@ impl FaultCauses {
         self.set.bits()
     }
 
-    /// Without the bits that are set in a word.
+    /// The register without the bits that are set in a word.
     #[tactic(auto, unfolding(base_words::specs::Arithmetic::bit_clear))]
     fn cleared(self, value: u32) -> FaultCauses
         ensures { result ≡ bit_clear self value }
@@ -168,7 +168,7 @@ impl FaultCauses {
         }
     }
 
-    /// With the cause of a refused fetch.
+    /// The register with the cause of a refused fetch as well.
     fn with_fetch(self) -> FaultCauses
         ensures { result ≡ bit_or self 0x1 }
     {
@@ -177,7 +177,7 @@ impl FaultCauses {
         }
     }
 
-    /// With the cause of a refused load or store, and that MMFAR has its address.
+    /// The register with the cause of a refused load or store as well, and with the bit that MMFAR has its address.
     fn with_access(self) -> FaultCauses
         ensures { result ≡ bit_or self 0x82 }
     {
@@ -190,7 +190,7 @@ impl FaultCauses {
 }
 
 impl FaultStatus {
-    /// At reset: MemManage is disabled, and there was no fault.
+    /// The registers at reset: MemManage is disabled, and there was no fault.
     pub fn at_reset() -> FaultStatus
         ensures { result ≡ record { shcsr = 0; cfsr = 0; mmfar = 0 } }
     {
@@ -201,7 +201,7 @@ impl FaultStatus {
         }
     }
 
-    /// After a refused fetch: IACCVIOL.
+    /// The registers after a refused fetch: IACCVIOL is set.
     pub fn after_fetch(self) -> FaultStatus
         ensures { result ≡ record self { cfsr = bit_or self.cfsr 0x1 } }
     {
@@ -211,7 +211,7 @@ impl FaultStatus {
         }
     }
 
-    /// After a refused load or store: DACCVIOL and MMARVALID, and in MMFAR its address.
+    /// The registers after a refused load or store: DACCVIOL and MMARVALID are set, and MMFAR has its address.
     pub fn after_access(self, address: u32) -> FaultStatus
         ensures { result ≡ record self { cfsr = bit_or self.cfsr 0x82; mmfar = address } }
     {

@@ -14,7 +14,7 @@ ghost use Rattle.machine_model.specs.Locality.{StepsReadWhatTheyList};
 ghost use Rattle.machine_model.specs.Confinement.{EventsAreListed, FetchesArePermittedAlways, FlashIsNeverWritten};
 
 /// A machine that has ended stays as it is: its steps change nothing, store and load nothing and have no event,
-/// and so do runs of them.
+/// and runs of them change nothing.
 pub fn ended_machines()
     ensures step { (j : PermissionTest) (i : Image) (s : State) (e : End) →
         s.ending ≡ Some e → turn j i s ≡ calm s }

@@ -1,4 +1,4 @@
-//! Running code: what the instructions do that stand in memory. Each function is a law and does nothing.
+//! Running code: what the instructions in memory do. Each function is a law and does nothing.
 
 ghost use Rattle.std.specs.Prelude.{◌≡◌, ℕ, ◌+◌, ◌*◌, ◌%◌, ◌^◌, ◌<◌, ◌≤◌, List, length, Bool};
 ghost use Rattle.base_words.specs.declared.conditions.Flags.{Flags};
@@ -63,7 +63,7 @@ pub fn templates()
 {}
 
 /// What an exception entry pushes (PushStack, B1.5.6) is read as it was, and taken back by the return (PopStack,
-/// B1.5.8) it is the thread again. A frame that is open lies in RAM, its words one behind the other.
+/// B1.5.8) it is the thread again. A frame that is open lies in RAM, with its words one behind the other.
 pub fn frames()
     ensures pushed { (vs : List ℕ) (o : ℕ) (ram : List ℕ) → o + 4 * length vs ≤ length ram →
         words_at (length vs) o (write_all 4 o vs ram) ≡ cut_words vs }

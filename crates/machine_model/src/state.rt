@@ -19,7 +19,7 @@ pub struct CoreRegisters {
     pub on_psp: bool,
     /// The link register.
     pub lr: u32,
-    /// The address of the next instruction; after an end, of the last.
+    /// The place of the next instruction; after an end, of the last.
     pub pc: u32,
     /// The condition flags of the APSR.
     pub flags: Flags,

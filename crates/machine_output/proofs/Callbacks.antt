@@ -41,7 +41,7 @@ module _ {G O : Type 0} (of : sinks.Ghosts O) (out : G → O) (name : G → ℕ)
     pub same_windows : windows g ≡ windows f
     pub puts : HasLine (windows f) e → Puts (sink of (out f)) (sink of (out g)) (event_line (windows f) e) accepted
 
-  -- so much was printed in between
+  -- these bytes were printed in between
   pub record Printed (f : G) (bytes : List ℕ) (g : G) : Type 0 where
     pub same_sink : name g ≡ name f
     pub same_windows : windows g ≡ windows f

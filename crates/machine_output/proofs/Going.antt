@@ -146,7 +146,7 @@ pub stepped_to : {F : Type 0} (answers : Event → Bool → Type 0) (i : Image) 
     → here.machine.image ≡ i → IsStepped answers here later told p → later.machine.state ≡ step i here.machine.state
 stepped_to answers i here later told p image w = w.state ∙ ap (λ j. step j here.machine.state) image
 
--- what is so of the event of any step is so of what a step told
+-- what holds of the event of any step holds of what a step told
 pub told_has : (i : Image) (s : State) (told : Option Event) (P : Event → Type 0) → ((x : Event) → event i s ≡ Some x → P x) → told ≡ event i s → IfSome told P
 told_has i s None P h e = tt
 told_has i s (Some x) P h e = h x (sym e)

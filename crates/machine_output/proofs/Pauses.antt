@@ -139,7 +139,7 @@ module _ (i : Image) (a : ℕ) (s : State) where
       is_run : WatchedRun i a limit s (pause_status p) (event_lines i q.steps s ++ pause_line a p)
       is_run = run_of q.steps p q.few (says_also A also q.steps (run (step i) q.steps s) p q.says)
 
-      -- with the line of the pause
+      -- the whole run, with the line of the pause
       pub whole_of : mid.told ≡ old.told → Puts mid new (pause_line a p) true → IsWhole i a limit s old new p
       whole_of same put = record {
         printed = event_lines i q.steps s ++ pause_line a p;

@@ -9,7 +9,7 @@ use Rattle.machine_model.specs.declared.state.End.{End}
 use Rattle.machine_model.specs.State.{State}
 use Rattle.machine_output.specs.Runs.{end_of, event_lines}
 
--- the run ended so, and all lines were printed
+-- the run had this end, and all lines were printed
 pub record IsWhole (i : Image) (steps : ℕ) (s : State) (old new : SinkState) (e : End) : Type 0 where
   pub end : e ≡ end_of i steps s
   pub faultless : new.faults ≡ old.faults

@@ -32,7 +32,7 @@ pub record IsStepped {F : Type 0} (answers : Event → Bool → Type 0) (old new
   pub is_told : told ≡ event old.machine.image old.machine.state
   pub says : IsPauseOf answers old.machine.image 1 1 old.machine.state (step old.machine.image old.machine.state) p
 
--- a run of at most so many steps paused so, and the lines of its events were printed
+-- a run of at most so many steps made this pause, and the lines of its events were printed
 pub record IsPrinted (answers : Event → Bool → Type 0) (i : Image) (limit : ℕ) (s : State) (old new : SinkState) (p : Pause) : Type 0 where
   pub steps : ℕ
   pub few : steps ≤ limit
@@ -48,7 +48,7 @@ pub record IsBroken (answers : Event → Bool → Type 0) (i : Image) (limit : �
   pub rose : Rose old.faults new.faults
   pub part : IsTrue old.told → (n : ℕ) → before < n → AddsPrefix old.written new.written (event_lines i n s)
 
--- the status of a run that pauses so
+-- the status of a run with this pause
 abbrev pub pause_status : Pause → ℕ
 pause_status (Hit e) = 0
 pause_status (Ended e) = end_status e

@@ -23,7 +23,7 @@ abbrev pub IsLast : List Region → (address : ℕ) → Region → Type 0
 IsLast [] a x = ⊥
 IsLast (g ∷ gs) a x = IsLast gs a x ⊎ ((x ≡ g) × (holds g a ≡ true) × NoneOf gs a)
 
--- of a list of regions that a unit keeps, the last that holds the address decides, and none exactly where none holds it
+-- the last region that holds the address decides, of a list of regions that a unit keeps, and none exactly where none holds it
 pub record DecidesAsKept (gs : List Region) (a : ℕ) : Type 0 where
   pub some : (x : Region) → (deciding (map kept_region gs) a ≡ Some x) ↔ ((g : Region) × (x ≡ kept_region g) × IsLast gs a g)
   pub none : (deciding (map kept_region gs) a ≡ None) ↔ NoneOf gs a
@@ -31,7 +31,7 @@ pub record DecidesAsKept (gs : List Region) (a : ℕ) : Type 0 where
 abbrev pub KeptListsDecide : Type 0
 KeptListsDecide = (gs : List Region) (a : ℕ) → DecidesAsKept gs a
 
--- so unprivileged code may do what the last region allows, and nothing else
+-- therefore unprivileged code may do what the last region allows, and nothing else
 abbrev pub KeptListsPermit : Type 0
 KeptListsPermit =
     (gs : List Region) (m : Registers) (kind : Access) (a : ℕ) → is_on m ≡ true → m.regions ≡ map kept_region gs →

@@ -21,7 +21,7 @@ is_of_legal_size g = nat_lt 4 (size_log g)
 abbrev pub is_in_block : Region → ℕ → Bool
 is_in_block g a = nat_eq (a / 2 ^ size_log g) (g.rbar / 2 ^ size_log g)
 
--- RASR.SRD: from 256 bytes on a region has eight subregions, and bit i takes out the i-th from below
+-- RASR.SRD: from 256 bytes on a region has eight subregions, of which bit i takes out the i-th, counted from the lowest
 abbrev pub is_taken_out : Region → ℕ → Bool
 is_taken_out g a = nat_lt 7 (size_log g) && nat_eq (bit_at (g.rasr / 2 ^ 8 % 2 ^ 8) (a / 2 ^ (size_log g - 3) % 8)) 1
 
@@ -30,7 +30,7 @@ unfoldable pub holds : Region → ℕ → Bool
 holds g a = is_enabled g && (is_of_legal_size g && (is_in_block g a && not (is_taken_out g a)))
 
 -- RASR.AP, by number: 1 privileged alone, 2 privileged and unprivileged reads, 3 both, 5 privileged reads,
--- 6 and 7 reads of both; 0 allows nothing, and so does 4, which is reserved
+-- 6 and 7 reads of both; 0 and 4 allow nothing, and 4 is reserved
 abbrev pub permission : Region → ℕ
 permission g = g.rasr / 2 ^ 24 % 8
 

@@ -40,7 +40,7 @@ impl Flags for Control {
 }
 
 /// What a write of the register keeps.
-pub(crate) fn kept(value: u32) -> Control
+pub(crate) fn control_of(value: u32) -> Control
     ensures { result.0 ≡ kept_control value }
 {
     Control::from_bits_truncate(value)

@@ -54,8 +54,8 @@ pub fn regions_give_their_rights()
     ensures { RegionsGiveTheirRights }
 {}
 
-/// Of a list of regions that the unit keeps, the last that holds an address decides. So unprivileged code may do
-/// there what that region allows, and nothing where none holds it; and all is permitted as by the words that were
+/// The last region that holds an address decides, of a list of regions that the unit keeps. So unprivileged code may
+/// do there what that region allows, and nothing where none holds it; and all is permitted as by the words that were
 /// written.
 pub fn kept_lists_decide()
     ensures deciding { KeptListsDecide }

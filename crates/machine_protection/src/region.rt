@@ -32,7 +32,7 @@ impl Region {
         (self.rasr >> 1) % 32 + 1
     }
 
-    /// Whether the address lies in the region's block, subregions left aside.
+    /// Whether the address lies in the region's block, whatever its subregions are.
     fn is_in_block(&self, addr: u32) -> bool
         ensures { result ≡ regions.is_in_block self.now addr }
     {

@@ -89,7 +89,7 @@ impl Mpu {
         ensures { result ≡ registers.at_reset 8 }
     {
         Mpu {
-            control: control::kept(0),
+            control: control::control_of(0),
             number: 0,
             count: 8,
             regions: [Region { rbar: 0, rasr: 0 }; MOST_REGIONS],
@@ -101,7 +101,7 @@ impl Mpu {
         ensures { result ≡ registers.at_reset 16 }
     {
         Mpu {
-            control: control::kept(0),
+            control: control::control_of(0),
             number: 0,
             count: 16,
             regions: [Region { rbar: 0, rasr: 0 }; MOST_REGIONS],
@@ -154,7 +154,7 @@ impl Mpu {
     {
         match reg {
             MPU_TYPE => {}
-            MPU_CTRL => self.control = control::kept(value),
+            MPU_CTRL => self.control = control::control_of(value),
             MPU_RNR => self.number = value % 256,
             MPU_RBAR => self.write_address(value),
             MPU_RASR => self.set_attributes(value),

@@ -105,10 +105,10 @@ halfwords_of-extended-24 bits below =
 
 -- ---- distances of short branches
 
--- of SVC, and of a branch past one halfword
+-- the distance of SVC, and of a branch past one halfword
 pub no_offset : IsOffset 2048 (pos 0)
 no_offset = record { from = le_z_yes tt; below = lt_z_yes tt; even = refl }
 
--- to behind the wide branch that follows
+-- the distance to behind the wide branch that follows
 pub two_offset : IsOffset 256 (pos 2)
 two_offset = record { from = le_z_yes tt; below = lt_z_yes tt; even = refl }

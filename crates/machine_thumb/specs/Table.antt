@@ -25,8 +25,8 @@ halfwords_of offset = cast_unsigned w32 offset / 2
 abbrev pub StoresBaseFirst : ℕ → ℕ → Type 0
 StoresBaseFirst n list = list / 2 ^ n % 2 ≡ 1 → list % 2 ^ n ≡ 0
 
--- the instruction stands in the table: each field is in its range, one that the instruction's own bits
--- don't hold is 0, and it is none of the cases that are left out, as an empty list or the program counter
+-- the instruction stands in the table: each field is in its range, and 0 where the encoding has no bits for
+-- it, and the instruction is none of the cases that are left out, as an empty list or the program counter
 -- as a high register
 abbrev pub InTable : Instr → Type 0
 InTable (ShiftImmediate op imm5 m d) = (op < 3) × (imm5 < 32) × (m < 8) × (d < 8)

@@ -3,7 +3,7 @@
 /// One instruction. A variant is one form of encoding and has a field for each of its parts: `d`,
 /// `n`, `m` and `t` are registers as in the Armv7-M Architecture Reference Manual (A7.7), `imm5`
 /// and the like the bits of a number as they stand in the halfword. Where a form has several
-/// instructions, `op` says which; a field that the instruction's own bits don't hold is 0. The
+/// instructions, `op` says which, and a field is 0 where the encoding has no bits for it. The
 /// offset of a branch is in bytes, counted from the address of the branch plus 4.
 #[derive(Clone, Copy)]
 pub enum Instr {

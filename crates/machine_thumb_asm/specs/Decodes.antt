@@ -20,7 +20,7 @@ instruction_of places at (Branch kind to) = Some (branch kind at (place_of place
 instruction_of places at (Half h) = None
 instruction_of places at (Word w) = None
 
--- each instruction and each branch is decoded where it stands, the branch being one to its label
+-- each instruction and each branch is decoded where it stands, and the branch is one to its label
 abbrev pub BytesDecode : Type 0
 BytesDecode =
     (a : Assembly) (k : ℕ) (item : Item) (x : Instr) → IsAssembly a → ArePut a.places a.items → first_far a.places a.base a.items ≡ None

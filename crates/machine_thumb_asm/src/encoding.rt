@@ -76,7 +76,7 @@ fn reach(kind: BranchKind) -> u32
     }
 }
 
-/// From the address of a branch plus 4 to another address.
+/// The distance from the address of a branch plus 4 to another address.
 #[tactic(auto, using(std::proofs::lemmas::Int::ints))]
 fn distance(from: u32, to: u32) -> i32
     requires from { from < 2 ^ 31 }

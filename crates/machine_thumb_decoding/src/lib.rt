@@ -1,4 +1,4 @@
-//! From halfwords to an instruction, group by group as the manual has its encodings (A5.2, A5.3).
+//! The way from halfwords to an instruction, group by group as the manual has its encodings (A5.2, A5.3).
 #![tactic(auto)]
 
 ghost use Rattle.std.specs.Prelude.{◌≡◌, ◌+◌, ◌*◌, ◌/◌, ◌%◌, ◌^◌, ◌<◌, ◌≤◌, IfSome, IfNone, MatchOption, Some, None};

@@ -1,4 +1,4 @@
-//! From an instruction to its halfwords.
+//! The way from an instruction to its halfwords.
 #![tactic(auto)]
 
 ghost use Rattle.std.specs.Prelude.{◌≡◌, ◌+◌, ◌*◌, ◌/◌, ◌%◌, ◌^◌, ◌<◌, ◌≤◌};

@@ -246,7 +246,7 @@ fn write_stack<W: fmt::Write>(f: &mut fmt::Formatter<W>, i: &Instr) -> fmt::Resu
     }
 }
 
-// A word with a list of registers, and one more behind them where a bit says so.
+// A word with a list of registers, and one more behind them where a bit adds it.
 fn write_list<W: fmt::Write>(
     f: &mut fmt::Formatter<W>,
     word: &str,

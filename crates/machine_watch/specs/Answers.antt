@@ -3,6 +3,6 @@
 use Rattle.std.specs.Prelude.{◌≡◌, Bool}
 use Rattle.base_events.specs.declared.event.Event.{Event}
 
--- of equal events its answers are equal
+-- its answers on equal events are equal
 abbrev pub AnswersEqually : (answers : Event → Bool → Type 0) → Type 0
 AnswersEqually answers = (e : Event) (a b : Bool) → answers e a → answers e b → a ≡ b

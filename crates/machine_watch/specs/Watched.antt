@@ -14,11 +14,11 @@ use Rattle.machine_watch.specs.Sessions.{SessionState}
 
 -- Below, `answers` says of an event that the watch may give this answer on it.
 
--- on each event of so many steps from a state the watch answers false
+-- the watch answers false on each event of so many steps from a state
 abbrev pub MissesAll : (answers : Event → Bool → Type 0) → Image → (steps : ℕ) → State → Type 0
 MissesAll answers i n s = (k : ℕ) (e : Event) → k < n → event i (run (step i) k s) ≡ Some e → answers e false
 
--- on each but that of the last step, which makes this event, and there it answers true
+-- it answers false on each but that of the last step, which makes this event, and true there
 pub record HitsLast (answers : Event → Bool → Type 0) (i : Image) (steps : ℕ) (s : State) (e : Event) : Type 0 where
   pub before : ℕ
   pub last : steps ≡ suc before
@@ -26,7 +26,7 @@ pub record HitsLast (answers : Event → Bool → Type 0) (i : Image) (steps : �
   pub makes : event i (run (step i) before s) ≡ Some e
   pub hits : answers e true
 
--- how so many steps end that lead to a state: as the machine has ended, or by the limit; never by a refusal
+-- the end of so many steps that lead to a state: as the machine has ended, or by the limit; never by a refusal
 abbrev pub EndsBy : (limit steps : ℕ) → State → End → Type 0
 EndsBy limit n t (Halt k) = t.ending ≡ Some (Halt k)
 EndsBy limit n t InputEnd = t.ending ≡ Some InputEnd

@@ -104,7 +104,7 @@ impl<F: Fn(&Event) -> bool + Drop> Session<F> {
     }
 
     /// The number of machine steps so far.
-    pub fn taken(&self) -> u64
+    pub fn step_count(&self) -> u64
         ensures { result ≡ self.now.taken }
     {
         self.taken

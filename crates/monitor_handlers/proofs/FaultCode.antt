@@ -7,7 +7,7 @@ use Rattle.machine_thumb.proofs.Codes.{code_bytes-append}
 use Rattle.machine_devices.specs.declared.image.Image.{Image}
 use Rattle.machine_devices.specs.Rules.{ObeysRules}
 use Rattle.machine_model.specs.Code.{CodeIn}
-use Rattle.machine_model.specs.CodeBytes.{HoldsBytes}
+use Rattle.machine_model.specs.CodeBytes.{FlashHasBytes}
 use Rattle.machine_model.specs.Exceptions.{mem_manage, vector}
 use Rattle.machine_model.proofs.CodeBytes.{bytes_are_code}
 use Rattle.machine_model.proofs.CodeParts.{length-code_bytes}
@@ -75,7 +75,7 @@ module _ (i : Image) (t : Tables) (rules : ObeysRules i) (rest : List ℕ) (has 
   pub room : offset + code_length (memfault k) ≤ 4096
   room = let f = fits t in omega (arith, f)
 
-  holds_memfault : HoldsBytes i offset C
+  holds_memfault : FlashHasBytes i offset C
   holds_memfault = record {
     fits = fit parted;
     holds = λ n h. ap (λ o. get_or i.flash (o + n) 0) (sym offset_is) ∙ ap (λ l. get_or l (length (front ++ (A ++ B)) + n) 0) parted ∙ middle (front ++ (A ++ B)) C (D ++ (F ++ rest)) n h;

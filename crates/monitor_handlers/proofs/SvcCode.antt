@@ -7,7 +7,7 @@ use Rattle.machine_thumb.proofs.Codes.{code_bytes-append}
 use Rattle.machine_devices.specs.declared.image.Image.{Image}
 use Rattle.machine_devices.specs.Rules.{ObeysRules}
 use Rattle.machine_model.specs.Code.{CodeIn}
-use Rattle.machine_model.specs.CodeBytes.{HoldsBytes}
+use Rattle.machine_model.specs.CodeBytes.{FlashHasBytes}
 use Rattle.machine_model.specs.Exceptions.{supervisor_call, vector}
 use Rattle.machine_model.proofs.CodeBytes.{bytes_are_code}
 use Rattle.machine_model.proofs.CodeParts.{length-code_bytes}
@@ -63,7 +63,7 @@ module _ (i : Image) (t : Tables) (rules : ObeysRules i) (rest : List ℕ) (has 
   pub room : offset + code_length (svc k) ≤ 4096
   room = let f = fits t in omega (arith, f)
 
-  holds_svc : HoldsBytes i offset B
+  holds_svc : FlashHasBytes i offset B
   holds_svc = record {
     fits = fit parted;
     holds = λ n h. ap (λ o. get_or i.flash (o + n) 0) (sym offset_is) ∙ ap (λ l. get_or l (length (front ++ A) + n) 0) (parted ∙ sym (append_assoc front A (B ++ (C ++ (F ++ rest))))) ∙ middle (front ++ A) B (C ++ (F ++ rest)) n h;

@@ -9,7 +9,7 @@ use Rattle.machine_thumb.proofs.Codes.{code_bytes-append}
 use Rattle.machine_devices.specs.declared.image.Image.{Image}
 use Rattle.machine_devices.specs.Rules.{ObeysRules}
 use Rattle.machine_model.specs.Code.{CodeIn}
-use Rattle.machine_model.specs.CodeBytes.{HoldsBytes}
+use Rattle.machine_model.specs.CodeBytes.{FlashHasBytes}
 use Rattle.machine_model.specs.Running.{code_size}
 use Rattle.machine_model.proofs.CodeBytes.{bytes_are_code}
 use Rattle.machine_model.proofs.CodeParts.{code_size-append}
@@ -55,7 +55,7 @@ module _ (i : Image) (t : Tables) (rules : ObeysRules i) (rest : List ℕ) (has 
       ∙ append_assoc front (a ++ b) (f ++ rest)
       ∙ ap (λ l. front ++ l) (append_assoc a b (f ++ rest))
 
-  holds_reset : HoldsBytes i reset_offset (code_bytes (code (reset k)))
+  holds_reset : FlashHasBytes i reset_offset (code_bytes (code (reset k)))
   holds_reset = record { fits = room parted; holds = λ n h. ap (λ l. get_or l (64 + n) 0) parted ∙ middle front (code_bytes (code (reset k))) behind n h }
     where
       room : i.flash ≡ front ++ (code_bytes (code (reset k)) ++ behind) → 64 + length (code_bytes (code (reset k))) ≤ length i.flash

@@ -6,7 +6,7 @@ use Rattle.machine_thumb.proofs.Codes.{code_bytes-append}
 use Rattle.machine_devices.specs.declared.image.Image.{Image}
 use Rattle.machine_devices.specs.Rules.{ObeysRules}
 use Rattle.machine_model.specs.Code.{Lies}
-use Rattle.machine_model.specs.CodeBytes.{HoldsBytes, BytesAreCode}
+use Rattle.machine_model.specs.CodeBytes.{FlashHasBytes, BytesAreCode}
 use Rattle.machine_model.proofs.CodeParts.{length-code_bytes}
 use Rattle.monitor_steps.specs.Code.{code}
 use Rattle.monitor_steps.proofs.CodeParts.{code_has_its_length}
@@ -70,7 +70,7 @@ module _ (i : Image) (t : Tables) (rules : ObeysRules i) (rest : List ℕ) (has 
       let z = length-append b c in
       omega (arith, la, lb, lc, x, y, z)
 
-  holds_stub : HoldsBytes i (stub_offset k) (code_bytes leave_stub)
+  holds_stub : FlashHasBytes i (stub_offset k) (code_bytes leave_stub)
   holds_stub = record {
     fits = room;
     holds = λ n h. ap₂ (λ (l : List ℕ) (o : ℕ). get_or l (o + n) 0) parted (sym before_length) ∙ middle before (code_bytes leave_stub) behind n h;

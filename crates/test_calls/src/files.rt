@@ -89,7 +89,7 @@ const STEPS: &[(&str, Call, Result<u64, Failed>)] = &[
 const KEPT: &[(u32, &[u8])] = &[(0, b"old!"), (1, b"oldn!t"), (9, b"oldnew!t")];
 
 fn check_held(rt: &impl Abort, files: &MemFiles, name: &str, want: &[u8]) {
-    match files.held(name) {
+    match files.contents(name) {
         Some(bytes) => assert_eq!(rt; bytes, want, "{name}"),
         None => assert!(rt; false, "{name}"),
     }
@@ -179,7 +179,7 @@ fn print(sink: &mut MemSink, piece: &[u8])
 fn nothing_is_to_fail(rt: HostRuntime) -> Result<(), Fail> {
     let alloc = rt.alloc();
     let mut files = two_files(&rt, alloc, &[], 0)?;
-    assert!(rt; files.held("a").is_some());
+    assert!(rt; files.contents("a").is_some());
     assert_eq!(rt; size_of(&mut files, "a"), 3);
     let mut sink = MemSink::new(alloc, 2, Vec::new(alloc))?;
     print(&mut sink, b"ab");

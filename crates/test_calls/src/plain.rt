@@ -6,10 +6,10 @@ use base_numerals::{Numeral, read_numeral};
 use base_words::conditions::{Flags, add_with_carry, compare_flags, holds, result_flags};
 use base_words::memory::{Width, read_value, write_value, write_words};
 use base_words::operations::{
-    add, bit_clear, moved, multiply, rotate_right, rotated_right_carry, shift_left, shift_right,
-    shift_right_signed, shifted_left_carry, shifted_right_carry, shifted_right_signed_carry,
-    signed_at_most, signed_less, signed_quotient, signed_remainder, subtract, unsigned_quotient,
-    unsigned_remainder,
+    add, bit_clear, moved_address, multiply, rotate_right, rotated_right_carry, shift_left,
+    shift_right, shift_right_signed, shifted_left_carry, shifted_right_carry,
+    shifted_right_signed_carry, signed_at_most, signed_less, signed_quotient, signed_remainder,
+    subtract, unsigned_quotient, unsigned_remainder,
 };
 use std::test::Fail;
 
@@ -119,7 +119,7 @@ fn arithmetic_at_its_corners(rt: HostRuntime) {
         (add(MINUS_ONE, 2), 1),
         (subtract(1, 2), MINUS_ONE),
         (multiply(0x1_0000, 0x1_0001), 0x1_0000),
-        (moved(0x2000_0000, -4), 0x1fff_fffc),
+        (moved_address(0x2000_0000, -4), 0x1fff_fffc),
         (bit_clear(0xff, 0x0f), 0xf0),
         (shift_right(LEAST, 31), 1),
         (shift_right_signed(LEAST, 31), MINUS_ONE),

@@ -96,7 +96,7 @@ fn add_held<'a>(
 ) -> Result<()> {
     for name in names {
         let name = name.as_str();
-        let bytes = copy_of(alloc, files.held(name))?;
+        let bytes = copy_of(alloc, files.contents(name))?;
         known.push(Before { name, bytes })?;
     }
     Ok(())
@@ -121,7 +121,7 @@ fn compare_call<P: Program>(
 fn all_there(files: &MemFiles, held: &[Held]) -> Result<()> {
     for fact in held {
         let name = fact.name.as_str();
-        ensure!(files.held(name).is_some(), "{name} is not there");
+        ensure!(files.contents(name).is_some(), "{name} is not there");
     }
     Ok(())
 }
@@ -195,7 +195,7 @@ fn compare_file(
     held: &[Held],
 ) -> Result<()> {
     let name = before.name;
-    let bytes = files.held(name);
+    let bytes = files.contents(name);
     let told = is_told(name, bytes, held)?;
     if is_same(bytes, &before.bytes) {
         return Ok(());

@@ -100,7 +100,7 @@ fn goes<F: Fn(&Event) -> bool + Drop>(
     requires equally { AnswersEqually (FnReturnsAt F.Fn watched.old.callback) }
     ensures { watched.new.callback ≡ watched.old.callback }
 {
-    assert!(rt; limit < 1_000_000 && watched.taken() < 1_000_000);
+    assert!(rt; limit < 1_000_000 && watched.step_count() < 1_000_000);
     let mut first = None;
     let mut second = None;
     let answer = watched.go(
@@ -115,7 +115,7 @@ fn goes<F: Fn(&Event) -> bool + Drop>(
     );
     assert!(rt; answer == pause);
     assert!(rt; [first, second] == given);
-    assert_eq!(rt; watched.taken(), taken);
+    assert_eq!(rt; watched.step_count(), taken);
 }
 
 #[test]

@@ -1,4 +1,4 @@
--- By what stands at the program counter, and what of it may be fetched.
+-- The cases by what stands at the program counter, and what of it may be fetched.
 use Rattle.std.proofs.Common.{◌≡◌, true, false, sym, ◌∙◌}
 use Rattle.machine_protection.specs.declared.region.Access.TheVariants.{Fetch}
 use Rattle.machine_model.specs.State.{by_mpu}

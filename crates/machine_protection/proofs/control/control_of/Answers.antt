@@ -2,7 +2,7 @@ use Rattle.std.proofs.Common.{◌≡◌, ◌∙◌}
 use Rattle.std.specs.Prelude.{bit_and}
 use Rattle.std.proofs.lemmas.Nat.{and_mask}
 use Rattle.bitflags.proofs.OnLiterals.{bitflags_on_literals}
-use Rattle.machine_protection.proofs.control.kept.Goals as goal
+use Rattle.machine_protection.proofs.control.control_of.Goals as goal
 
 pub returns : goal.returns
 unfolding bitflags_on_literals

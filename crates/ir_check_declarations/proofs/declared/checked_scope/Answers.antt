@@ -3,7 +3,7 @@ use Rattle.ir_model.specs.Plain.{PlainStruct, struct_of, firmware_of}
 use Rattle.ir_model.specs.Typing.{structs_checks, periph_checks, first_failing, declared_checks}
 use Rattle.ir_check_scopes.specs.Found.{Refused}
 use Rattle.ir_check_scopes.proofs.Order.{first_told, first_append, refused_left, refused_right}
-use Rattle.ir_check_declarations.proofs.declared.declared.Goals as goal
+use Rattle.ir_check_declarations.proofs.declared.checked_scope.Goals as goal
 
 pub returns-in_err-layouts-clause-finds : goal.returns-in_err-layouts-clause-finds
 returns-in_err-layouts-clause-finds c =
