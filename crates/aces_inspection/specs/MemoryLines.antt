@@ -9,6 +9,7 @@ use Rattle.machine_bus.specs.Bus.{word_at}
 use Rattle.machine_bus.specs.Locations.{location}
 use Rattle.machine_model.specs.declared.state.CoreRegisters.{CoreRegisters}
 use Rattle.machine_model.specs.State.{State}
+use Rattle.monitor_model.specs.Values.{frame_size, most_loans}
 use Rattle.monitor_model.specs.BlockWords.{current_offset, top_offset, depth_offset, loan_count_offset, saved_offset, loan_offset}
 use Rattle.aces_inspection.specs.CoreLines.{named_word}
 
@@ -16,16 +17,9 @@ use Rattle.aces_inspection.specs.CoreLines.{named_word}
 abbrev pub process_stack : CoreRegisters → ℕ
 process_stack c = if c.on_psp then c.sp else c.other_sp
 
--- an exception's frame has eight words (B1.5.6)
-abbrev pub frame_size : ℕ
-frame_size = 32
-
--- the most saved entries that the monitor keeps, and the most loans
+-- the most saved entries that the monitor keeps
 abbrev pub most_saved : ℕ
 most_saved = 8
-
-abbrev pub most_loans : ℕ
-most_loans = 32
 
 -- the monitor's block may lie at this address
 pub record IsBlockAt (block : ℕ) : Type 0 where

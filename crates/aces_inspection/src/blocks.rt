@@ -19,6 +19,16 @@ const DEPTH: u32 = 4 * places::DEPTH as u32;
 const LOAN_COUNT: u32 = 4 * places::LOANS as u32;
 /// Where the first saved entry stands; each has 16 bytes.
 const SAVED: u32 = 4 * places::SAVED_PSP as u32;
+/// Where a saved entry has its compartment, from its first word, the stack pointer, on.
+const SAVED_CURRENT: u32 = 4 * (places::SAVED_CUR as u32 - places::SAVED_PSP as u32);
+/// Where it has the end of its open stack.
+const SAVED_TOP: u32 = 4 * (places::SAVED_TOP as u32 - places::SAVED_PSP as u32);
+/// Where it has its mark.
+const SAVED_MARK: u32 = 4 * (places::SAVED_MARK as u32 - places::SAVED_PSP as u32);
+/// Where a loan has its end, from its first address on.
+const LOAN_END: u32 = 4 * places::LOAN_END as u32;
+/// Where it has the number of the local.
+const LOAN_NUMBER: u32 = 4 * places::LOAN_NUMBER as u32;
 /// How many saved entries there are at most.
 const MOST_SAVED: u32 = 8;
 /// How many loans there are at most.
@@ -65,7 +75,7 @@ fn put_stack(text: &mut Text, machine: &Machine, block: u32, number: u32) -> Res
 {
     let saved = SAVED + 16 * number;
     put_word(text, b" psp", block_word(machine, block, saved))?;
-    put_word(text, b" top", block_word(machine, block, saved + 8))
+    put_word(text, b" top", block_word(machine, block, saved + SAVED_TOP))
 }
 
 /// Puts what a saved entry says of a caller.
@@ -79,10 +89,14 @@ fn put_caller(text: &mut Text, machine: &Machine, block: u32, number: u32) -> Re
     put_number(
         text,
         b" compartment ",
-        block_word(machine, block, saved + 4),
+        block_word(machine, block, saved + SAVED_CURRENT),
     )?;
     put_stack(text, machine, block, number)?;
-    put_number(text, b" mark ", block_word(machine, block, saved + 12))
+    put_number(
+        text,
+        b" mark ",
+        block_word(machine, block, saved + SAVED_MARK),
+    )
 }
 
 /// Puts the line of a saved entry.
@@ -107,8 +121,12 @@ fn put_loan(text: &mut Text, machine: &Machine, block: u32, number: u32) -> Resu
     let loan = LOANS_OFFSET + 12 * number;
     put_number(text, b"loan ", number)?;
     put_word(text, b"", block_word(machine, block, loan))?;
-    put_word(text, b"", block_word(machine, block, loan + 4))?;
-    put_number(text, b" number ", block_word(machine, block, loan + 8))?;
+    put_word(text, b"", block_word(machine, block, loan + LOAN_END))?;
+    put_number(
+        text,
+        b" number ",
+        block_word(machine, block, loan + LOAN_NUMBER),
+    )?;
     text.put(b"\n")
 }
 

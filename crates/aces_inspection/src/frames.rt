@@ -2,6 +2,7 @@
 
 ghost use Rattle.std.specs.Prelude.{◌≡◌, ◌+◌, ◌*◌, ◌%◌, ◌<◌, ◌^◌, ◌++◌, OnOk};
 ghost use Rattle.base_ranges.specs.Ranges.{is_inside};
+ghost use Rattle.monitor_model.specs.Values.{frame_size};
 ghost use Rattle.aces_inspection.specs.MemoryLines as lines;
 
 use crate::words_put::put_word;
@@ -19,7 +20,7 @@ fn process_stack(core: &CoreRegisters) -> u32
 
 /// Whether a frame at an address lies in such a RAM.
 fn is_in_ram(base: u32, ram_base: u32, ram_size: u32) -> bool
-    ensures { result ≡ is_inside base lines.frame_size ram_base ram_size }
+    ensures { result ≡ is_inside base frame_size ram_base ram_size }
 {
     let first = u64::from(ram_base);
     let base = u64::from(base);

@@ -10,12 +10,6 @@ pub const PERIPHERALS_BASE: u32 = 0x4000_0000;
 /// How many bytes the peripherals' part of the memory map has.
 pub const PERIPHERALS_SIZE: u32 = 0x2000_0000;
 
-/// The exponent of the least window: 32 bytes.
-pub const LEAST_WINDOW: u32 = 5;
-
-/// The exponent of the greatest window: 64 KiB.
-pub const GREATEST_WINDOW: u32 = 16;
-
 /// Whether a range lies inside another.
 pub fn is_inside(base: u32, size: u32, outer: u32, outer_size: u32) -> bool
     ensures { result ≡ ranges.is_inside base size outer outer_size }

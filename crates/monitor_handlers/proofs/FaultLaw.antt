@@ -25,7 +25,6 @@ use Rattle.monitor_model.specs.Records.{stack_end}
 use Rattle.monitor_model.specs.Layout.{tables_size}
 use Rattle.monitor_program.specs.Page.{stub_address, constants, memfault_offset}
 use Rattle.monitor_program.specs.CodeSize.{CodeFits}
-use Rattle.monitor_program.specs.Constants.{Constants}
 use Rattle.monitor_program.specs.MemFault.{memfault}
 use Rattle.monitor_model.specs.Block.{MonitorBlock}
 use Rattle.monitor_model.specs.Invariant.{InvariantHolds}
@@ -75,9 +74,6 @@ module _ (laws : FaultLaws) (i : Image) (t : Tables) (ready : IsReady i t) where
 
   rules : ObeysRules i
   rules = ready.placed.rules
-
-  abbrev k : Constants
-  k = constants t
 
   page_room : 4096 ≤ tables_size t
   page_room = let a = ready.area_inside in omega (arith, a)

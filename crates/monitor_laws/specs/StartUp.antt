@@ -17,6 +17,7 @@ use Rattle.monitor_program.specs.Constants.{Constants}
 use Rattle.monitor_program.specs.Reset.{reset}
 use Rattle.monitor_program.specs.Page.{page, stub_address}
 use Rattle.monitor_model.specs.Starts.{Starts}
+use Rattle.monitor_model.specs.Halts.{halt_unit}
 
 -- a range of at least one word in RAM, and as many bytes in flash
 pub record IsInit (i : Image) (x : InitRecord) : Type 0 where
@@ -51,4 +52,4 @@ pub record HaltsUnchanged (i : Image) (s : PrivilegedSteps) (before : Core) (num
 abbrev pub OtherUnitsHalt : Type 0
 OtherUnitsHalt =
     (i : Image) (c : Constants) (before : Core) → is_unprivileged before.protection ≡ false → length before.low ≡ 8 → length before.protection.mpu.regions ≢ c.slots + 4 →
-    HaltsUnchanged i (reset c) before 10
+    HaltsUnchanged i (reset c) before halt_unit

@@ -1,10 +1,10 @@
 -- Beyond the program's claim: only laws, proofs and functions inside the tool cite this file.
 -- What was built of a firmware, and where its parts stand.
 use Rattle.std.specs.Prelude.{ℕ, ◌+◌, ◌-◌, List, length, map, Option}
-use Rattle.std.proofs.Math.ListN.{get_or}
 use Rattle.ir_model.specs.Resolved.{Program, NumberedFunc, func_at}
 use Rattle.plan_model.specs.declared.needs.Needs.{Needs}
 use Rattle.plan_model.specs.declared.groups.Groups.{Groups}
+use Rattle.plan_model.specs.Groups as grouped
 use Rattle.plan_model.specs.Crossing.{site_number}
 use Rattle.code_model.specs.declared.places.Places.{Places}
 use Rattle.code_model.specs.FrameShape.{frame_shape, local_starts}
@@ -30,7 +30,7 @@ module _ (k : Build) where
   groups_of = code_groups k.program k.needs k.groups
 
   abbrev pub compartment_of : (func : ℕ) → ℕ
-  compartment_of f = get_or k.groups.of f 0
+  compartment_of f = grouped.compartment_of k.groups f
 
   abbrev pub func : ℕ → NumberedFunc
   func f = func_at k.program f
