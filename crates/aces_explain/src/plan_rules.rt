@@ -1,31 +1,19 @@
 //! The rules that a firmware without a plan breaks.
 
 ghost use Rattle.std.specs.Prelude.{◌≡◌, ◌++◌, OnOk};
-ghost use Rattle.aces_reports.specs.FaultLines.{compiled_word};
 ghost use Rattle.aces_explain.specs.Explanations.{rule_line};
 ghost use Rattle.aces_explain.specs.PlanRules as rules;
 ghost use Rattle.aces_explain.specs.PlanTold as told;
 
 use crate::room_lines::put_rule;
+use aces_reports::compiled_word;
 use plan_denials::Asked;
 use plan_model::limits::{COMPARTMENT_LIMIT, LENT_LIMIT, LimitKind, SITE_LIMIT, TARGET_LIMIT};
 use plan_model::plan::Lowest;
 use plan_report::text::Text;
 use std::alloc::AllocError;
 
-/// What there is too much of.
-fn compiled_word(which: LimitKind) -> &'static [u8]
-    ensures { result.now ≡ compiled_word which }
-{
-    match which {
-        LimitKind::Compartments => b"compartments",
-        LimitKind::Lent => b"lent",
-        LimitKind::Sites => b"sites",
-        LimitKind::Targets => b"targets",
-    }
-}
-
-/// How much of it there may be.
+/// The greatest number that a limit of what is compiled allows.
 fn limit_of(which: LimitKind) -> u64
     ensures { result ≡ rules.limit_of which }
 {

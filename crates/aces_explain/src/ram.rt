@@ -5,26 +5,15 @@ ghost use Rattle.ir_model.specs.Plain.{firmware_of};
 ghost use Rattle.ir_program.specs.Seen.{program_of};
 ghost use Rattle.plan_layout.specs.Filling.{use_seen, block_seen};
 ghost use Rattle.plan_model.specs.Regions.{region_at};
-ghost use Rattle.plan_report.specs.Names.{global_name, spaced};
 ghost use Rattle.aces_explain.specs.Blocks as told;
 
 use ir_model::firmware::Firmware;
 use ir_program::program::Program;
 use plan_layout::ram::{Purpose, UsedBlock, falling_blocks};
 use plan_model::graph::Final;
-use plan_report::naming::put_global;
+use plan_report::naming;
 use plan_report::text::Text;
 use std::alloc::{AllocError, Global};
-
-/// Puts the names of globals, each behind a space.
-fn put_names(text: &mut Text, firmware: &Firmware, globals: &[u32]) -> Result<(), AllocError>
-    ensures { OnOk result (text.new ≡ text.old ++ spaced (map (global_name (firmware_of firmware.now)) globals.now)) }
-{
-    for i in 0..globals.len() {
-        put_global(text, firmware, globals[i])?;
-    }
-    Ok(())
-}
 
 /// Puts the names of the globals of a block, and how many of its bytes are used.
 fn put_globals(
@@ -37,7 +26,7 @@ fn put_globals(
     ensures { OnOk result (text.new ≡ text.old ++ told.globals_text (firmware_of firmware.now) word.now globals.now bytes) }
 {
     text.put(word)?;
-    put_names(text, firmware, globals)?;
+    naming::put_globals(text, firmware, globals)?;
     text.put(b", ")?;
     text.put_decimal(u64::from(bytes))?;
     text.put(b" bytes")

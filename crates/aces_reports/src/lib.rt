@@ -6,5 +6,5 @@ mod telling;
 mod words_refusal;
 
 pub use failure::{Done, Failure, Fault};
-pub use telling::{limit_word, memory_word, report, say};
+pub use telling::{compiled_word, limit_word, memory_word, report, say};
 pub use words_refusal::{WordsRefusal, refuse_words};

@@ -249,8 +249,8 @@ fn say_key<E: Sink>(err: &mut E, name: &[u8], text: &[u8], key: Key)
     say_keyed(err, name, text, key.path().as_bytes());
 }
 
-/// What a firmware has too much of to be compiled.
-fn compiled_word(which: LimitKind) -> &'static [u8]
+/// The word of a limit of what is compiled: what a firmware that passes it has too much of.
+pub fn compiled_word(which: LimitKind) -> &'static [u8]
     ensures { result.now ≡ lines.compiled_word which }
 {
     match which {

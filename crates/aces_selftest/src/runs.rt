@@ -5,7 +5,7 @@ ghost use Rattle.machine_devices.specs.Rules.{ObeysRules};
 ghost use Rattle.ir_model.specs.Plain.{firmware_of};
 ghost use Rattle.ir_model.specs.State.{start};
 ghost use Rattle.ir_program.specs.Seen.{program_of, HasCounts};
-ghost use Rattle.ir_run.specs.Runs.{IsChecked};
+ghost use Rattle.ir_model.specs.Checked.{IsChecked};
 ghost use Rattle.aces_compiler.specs.PrintedRuns.{begin};
 ghost use Rattle.aces_selftest.specs.Answers.{source_limit};
 ghost use Rattle.aces_selftest.specs.Counts.{IsSourceCount, IsMachineCount};

@@ -4,9 +4,6 @@ ghost use Rattle.std.specs.Prelude.{◌≡◌, ◌++◌, Ok, codes, length, unwr
 ghost use Rattle.std.specs.Bool.{Decides};
 ghost use Rattle.machine_model.specs.declared.state.End.TheVariants.{Limit};
 ghost use Rattle.machine_lines.specs.Lines as machine_lines;
-ghost use Rattle.ir_output.specs.SourceRuns as source_lines;
-ghost use Rattle.ir_output.specs.Ends.{seen_end};
-ghost use Rattle.ir_run.specs.Acts.{fault_of};
 ghost use Rattle.aces_reports.specs.Ends.{status_of};
 ghost use Rattle.aces_selftest.specs.Lines as lines;
 ghost use Rattle.aces_selftest.specs.Tested.{source_seen, image_seen, IsTold};
@@ -16,35 +13,11 @@ use aces_files::telling::CommandOutput;
 use aces_reports::Done;
 use base_events::event::Event;
 use ir_model::firmware::Firmware;
-use ir_run::outcome::{FaultKind, SourceEnd};
+use ir_output::ending;
 use machine_lines::{Line, end_line};
 use machine_model::state::End;
 use plan_report::text::Text;
 use std::alloc::{AllocError, Global};
-
-/// The line of an end by a fault.
-fn fault_line(kind: FaultKind) -> &'static [u8]
-    ensures { result.now ≡ codes "end fault " ++ source_lines.fault_word (fault_of kind) ++ machine_lines.line_feed }
-{
-    match kind {
-        FaultKind::Null => b"end fault null\n",
-        FaultKind::Dead => b"end fault dead\n",
-        FaultKind::NoCell => b"end fault no-cell\n",
-        FaultKind::Constant => b"end fault const\n",
-    }
-}
-
-/// The line of the end of a run of the source; that of the limit where it goes on.
-fn source_end_line(end: Option<SourceEnd>) -> &'static [u8]
-    ensures { result.now ≡ source_lines.end_line (seen_end end) }
-{
-    match end {
-        None => b"end limit\n",
-        Some(SourceEnd::Returned) => b"end halt 0\n",
-        Some(SourceEnd::InputEnd) => b"end input\n",
-        Some(SourceEnd::Fault(kind)) => fault_line(kind),
-    }
-}
 
 /// The line of the end of a run of the image; that of the limit where it goes on.
 fn image_end_line(end: Option<End>) -> Line
@@ -160,7 +133,7 @@ pub(crate) fn tell(
 ) -> Result<CommandOutput, AllocError>
     ensures { IfOk result (IsTold (length firmware.now.globals) (length firmware.now.periphs) tested.now) }
 {
-    let source_end = source_end_line(tested.source.end);
+    let source_end = ending::end_line(tested.source.end);
     let image_line = image_end_line(tested.image.end);
     let image_end = image_line.as_slice();
     let events = same_events(

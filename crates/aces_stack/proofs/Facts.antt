@@ -16,4 +16,4 @@ pub sites_there : (p : Program) (w : PlainFirmware) (closed : Bool) (n : Needs) 
     → AreNeedsOf w closed n → SitesAreThere p n
 sites_there p w closed n typed serve there e t l are =
     subst (λ (q : Program). SitesAreThere q n) (sym e)
-    (there (resolve w) (sizes_of w) are.sets closed n (typed w t l) (serve (resolve w) are.sets (record { source = w; typed = t; limits = l; same = refl }) are.least) are.needs)
+    (there (resolve w) (sizes_of w) are.sets closed n (typed w t l) (serve (resolve w) are.sets (record { firmware = w; typed = t; within = l; is = refl }) are.least) are.needs)

@@ -52,7 +52,7 @@ bounds_are_kept one runs law policy w b a n typed within serve size are limits a
 }
   where
     sets : AreSets (resolve w) are.sets
-    sets = serve (resolve w) are.sets (record { source = w; typed = typed; limits = within; same = refl }) are.least
+    sets = serve (resolve w) are.sets (record { firmware = w; typed = typed; within = within; is = refl }) are.least
 
     bounded : Fits b.stack a → IsBounded w n (division policy w n) b.stack
     bounded f = record {

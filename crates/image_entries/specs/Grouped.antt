@@ -3,11 +3,7 @@
 use Rattle.std.specs.Prelude.{◌≡◌, ℕ, ◌<◌, List, [], length, map, position, Option, IfSome}
 use Rattle.std.specs.List.{All}
 use Rattle.std.proofs.Math.ListN.{get_or}
-use Rattle.ir_model.specs.Plain.{PlainFirmware}
 use Rattle.ir_model.specs.Resolved.{Program, func_at}
-use Rattle.ir_model.specs.Resolve.{resolve}
-use Rattle.ir_model.specs.Canonical.{IsWithinLimits}
-use Rattle.ir_model.specs.Typing.{IsTyped}
 use Rattle.plan_model.specs.declared.needs.SiteNeed.{SiteNeed}
 use Rattle.plan_model.specs.CompileLimits.{lent_limit, site_limit}
 use Rattle.plan_model.specs.Lists.{numbers_below}
@@ -38,10 +34,3 @@ places_in a x h = record { globals = a.globals; windows = a.windows; entries = a
 -- a number, or none, for each local of each function
 abbrev pub HasEachLend : Program → Numbers → Type 0
 HasEachLend p x = (h : ℕ) → h < length p.funcs → length (get_or x.lends h []) ≡ length (func_at p h).locals
-
--- the program of a typed firmware within the limits
-pub record IsProgram (p : Program) : Type 0 where
-  pub firmware : PlainFirmware
-  pub typed : IsTyped firmware
-  pub within : IsWithinLimits firmware
-  pub is : p ≡ resolve firmware

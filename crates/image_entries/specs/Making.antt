@@ -1,13 +1,14 @@
 -- Beyond the program's claim: only laws, proofs and functions inside the tool cite this file.
 -- What the code of all functions is made of, as the definitions see it.
 use Rattle.std.specs.Prelude.{◌≡◌, length, map}
+use Rattle.ir_model.specs.Checked.{IsChecked}
 use Rattle.ir_model.specs.Resolved.{Program}
 use Rattle.ir_program.specs.Seen.{program_of}
 use Rattle.plan_model.specs.declared.plan.Spot.{Spot}
 use Rattle.plan_model.specs.Lists.{numbers_below}
 use Rattle.code_model.specs.CompartmentCode.{CodeGroups, CodePlaces, entry_of}
 use Rattle.image_entries.specs.declared.making.Making.{Making}
-use Rattle.image_entries.specs.Grouped.{AreSmall, HasEachLend, IsProgram, groups_in}
+use Rattle.image_entries.specs.Grouped.{AreSmall, HasEachLend, groups_in}
 
 abbrev pub program_in : Making → Program
 program_in m = program_of m.program.now
@@ -25,7 +26,7 @@ places_at m =
 
 -- numbers and addresses are those of a typed firmware's functions
 pub record IsReady (m : Making) : Type 0 where
-  pub program : IsProgram (program_in m)
+  pub program : IsChecked (program_in m)
   pub compartments : length m.compartments.now ≡ length m.program.now.funcs
   pub lends : HasEachLend (program_in m) m.numbers.now
   pub small : AreSmall m.numbers.now

@@ -15,7 +15,8 @@ use Rattle.image_model.specs.LinkedTables.{Filled}
 use Rattle.image_entries.specs.declared.making.Making.{Making}
 use Rattle.image_blocks.specs.declared.fill.Filled as blocks
 use Rattle.image_blocks.specs.Filling.{filled_of, object_places}
-use Rattle.image_entries.specs.Grouped.{AreNumbers, AreSmall, HasEachLend, IsProgram, groups_in}
+use Rattle.ir_model.specs.Checked.{IsChecked}
+use Rattle.image_entries.specs.Grouped.{AreNumbers, AreSmall, HasEachLend, groups_in}
 use Rattle.image_entries.specs.Making.{program_in, places_at, IsReady}
 use Rattle.image_linker.specs.Parts.{AreAddresses, planned_places, words_in_blocks}
 
@@ -34,7 +35,7 @@ module _ (m : Making) (f : Final) (cs : m.compartments.now ≡ f.groups.of) (as_
       ap (λ gs. make gs (planned_places (program_in m) f m.plan.now).windows) (sym as_.globals_are) ∙ ap (λ ws. make m.addresses.now.globals ws) (sym as_.windows_are)
 
   -- numbers and addresses are ready for the code
-  pub made_ready : (sites : List SiteNeed) (ls : List (ℕ × ℕ)) → IsProgram (program_in m) → AreNumbers (program_in m) sites ls m.numbers.now → AreSmall m.numbers.now → IsReady m
+  pub made_ready : (sites : List SiteNeed) (ls : List (ℕ × ℕ)) → IsChecked (program_in m) → AreNumbers (program_in m) sites ls m.numbers.now → AreSmall m.numbers.now → IsReady m
   made_ready sites ls typed are small = record {
     program = typed;
     compartments = ap (λ xs. length xs) cs ∙ as_.compartments ∙ length-map m.program.now.funcs (routine_of (known_of m.program.now));

@@ -3,7 +3,8 @@
 ghost use Rattle.std.specs.Prelude.{◌≡◌, ◌+◌, ◌*◌, ◌≤◌, map, IfOk, IfSome};
 ghost use Rattle.ir_program.specs.Seen.{program_of};
 ghost use Rattle.ir_program.specs.Windows.{window_of};
-ghost use Rattle.image_entries.specs.Grouped.{IsProgram, HasEachLend};
+ghost use Rattle.ir_model.specs.Checked.{IsChecked};
+ghost use Rattle.image_entries.specs.Grouped.{HasEachLend};
 ghost use Rattle.image_model.specs.LinkedImage.{flash_of, linked};
 ghost use Rattle.plan_crossings.specs.Seen.{seen_sites};
 ghost use Rattle.image_entries.specs.Making.{IsReady, program_in};
@@ -209,7 +210,7 @@ pub fn link_parts(
     plan: &Plan,
     board: &Board,
 ) -> Result<LinkParts, AllocError>
-    requires { IsProgram (program_of program.now) }
+    requires { IsChecked (program_of program.now) }
     ensures { IfOk result (AreLinkParts (program_of program.now) needs.now graph.now plan.now board.now) }
 {
     let sites = crossing_sites(alloc, needs, &graph.groups)?;
@@ -240,7 +241,7 @@ fn linked_flash(
     plan: &Plan,
     board: &Board,
 ) -> Result<Vec<u8>, AllocError>
-    requires { IsProgram (program_of program.now) }
+    requires { IsChecked (program_of program.now) }
     ensures { IfOk result (λ bytes. bytes.items ≡ flash_of (program_of program.now) needs.now graph.now plan.now board.now) }
 {
     let parts = link_parts(alloc, program, needs, graph, plan, board)?;
@@ -276,7 +277,7 @@ pub fn link(
     plan: &Plan,
     board: &Board,
 ) -> Result<Image, AllocError>
-    requires { IsProgram (program_of program.now) }
+    requires { IsChecked (program_of program.now) }
     ensures { IfOk result (λ image. image ≡ linked (program_of program.now) needs.now graph.now plan.now (map window_of periphs.now) board.now) }
 {
     let flash = linked_flash(alloc, program, needs, graph, plan, board)?;

@@ -2,7 +2,7 @@
 
 ghost use Rattle.std.specs.Prelude.{◌≡◌, ◌++◌, IfOk, OnOk};
 ghost use Rattle.ir_program.specs.Seen.{program_of};
-ghost use Rattle.image_entries.specs.Grouped.{IsProgram};
+ghost use Rattle.ir_model.specs.Checked.{IsChecked};
 ghost use Rattle.plan_report.specs.Subjects.{subject_of};
 ghost use Rattle.image_symbols.specs.FunctionLines as functions_of;
 ghost use Rattle.image_symbols.specs.Symbols as definition;
@@ -58,7 +58,7 @@ fn lines_of(alloc: Global, subject: &Subject<'_>, parts: &LinkParts) -> Result<V
 ///
 /// There is no memory for it. This is also the answer where the plan is none of this firmware on this board.
 pub fn symbols(alloc: Global, subject: &Subject<'_>) -> Result<Vec<u8>, AllocError>
-    requires { IsProgram (program_of subject.now.program.now) }
+    requires { IsChecked (program_of subject.now.program.now) }
     ensures { IfOk result (λ lines. lines.items ≡ definition.symbols (subject_of subject.now)) }
 {
     let parts = link_parts(

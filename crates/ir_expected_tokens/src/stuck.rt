@@ -2,15 +2,14 @@
 
 ghost use Rattle.std.specs.Prelude.{◌≡◌, Some, None, false, IfOk, if◌then◌else◌};
 ghost use Rattle.ir_reader.specs.Found.{found_of, colon_first};
-ghost use Rattle.ir_reader.specs.Scan.{placed, later};
+ghost use Rattle.ir_reader.specs.Scan.{later};
 ghost use Rattle.ir_expected_tokens.specs.Stuck as stuck;
 ghost use Rattle.ir_expected_tokens.specs.SyntaxLines as lines;
 
 use crate::grammar::Class;
 use crate::stack::Stack;
 use crate::telling::lines_at;
-use ir_model::token::Mark;
-use ir_reader::lexer::lex;
+use ir_reader::lexer::{begins_colon, lex};
 use ir_reader::token::Token;
 use std::alloc::{AllocError, Global};
 
@@ -35,14 +34,6 @@ fn is_end(token: Token<'_>) -> bool
     ensures { result ≡ stuck.is_end (found_of token.entry) }
 {
     matches!(token, Token::End)
-}
-
-/// Whether a text begins with a colon.
-fn begins_colon(text: &[u8]) -> bool
-    ensures { result ≡ colon_first (placed text.now) }
-{
-    let (token, _, _) = lex(text);
-    matches!(token, Token::Mark(Mark::Colon))
 }
 
 /// Whether a colon follows a token, with this text behind it.

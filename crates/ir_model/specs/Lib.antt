@@ -17,4 +17,5 @@ pub mod FewItems
 pub mod Frames
 pub mod Rules
 pub mod Typing
+pub mod Checked
 pub mod Texts

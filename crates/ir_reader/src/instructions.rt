@@ -6,14 +6,13 @@ ghost use Rattle.ir_reader.specs.Reading.{Reads, ReadsBehind, ReadsAt, BehindRet
 ghost use Rattle.ir_reader.specs.Lines.{ReadsLine, ReadsValue, IsBelow};
 ghost use Rattle.ir_model.specs.declared.token.Keyword.TheVariants as key;
 ghost use Rattle.ir_reader.specs.Scan.{placed};
-ghost use Rattle.ir_reader.specs.Found.{colon_first};
 ghost use Rattle.ir_grammar.specs.Spelling as grammar;
 ghost use Rattle.ir_reader.specs.Spelling as spelling;
 ghost use Rattle.ir_reader.specs.Spelling.{as_found};
 
 use crate::bindings::args;
 use crate::error::ReadError;
-use crate::lexer::lex;
+use crate::lexer::{begins_colon, lex};
 use crate::limits::{count_excess, keep, number_excess, or_else, word_excess};
 use crate::terminals::{mark, name, syntax};
 use crate::token::Token;
@@ -143,14 +142,6 @@ fn value(alloc: Global, to: Name, text: &[u8]) -> Result<(Inst, &[u8]), ReadErro
         Token::Key(word) => value_of_word(alloc, to, word, left, rest),
         _ => Err(syntax(left)),
     }
-}
-
-/// Whether a text begins with a colon.
-fn begins_colon(text: &[u8]) -> bool
-    ensures { result ≡ colon_first (placed text.now) }
-{
-    let (token, _, _) = lex(text);
-    matches!(token, Token::Mark(Mark::Colon))
 }
 
 /// A word that is no label, how many bytes begin with it, and the text behind it, where one is there.

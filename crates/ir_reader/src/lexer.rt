@@ -5,7 +5,7 @@ ghost use Rattle.std.specs.List.{prefix_len};
 ghost use Rattle.base_names.specs.Names.{continues_word, is_word};
 ghost use Rattle.base_numerals.specs.Numerals.{numeral};
 ghost use Rattle.ir_model.specs.Texts.{is_blank, is_inside_line, StartsToken};
-ghost use Rattle.ir_reader.specs.Found.{found_of, Is};
+ghost use Rattle.ir_reader.specs.Found.{found_of, Is, colon_first};
 ghost use Rattle.ir_reader.specs.Words.{word_token};
 ghost use Rattle.ir_reader.specs.Scan.{placed, GoesOn, IsProper, BeginsWith, lexeme_of, mark_found, number_from, is_digit};
 ghost use Rattle.std.specs.Prelude.{true, ◌∷◌};
@@ -169,4 +169,12 @@ pub fn lex(text: &[u8]) -> (Token<'_>, usize, &[u8])
     let (token, len) = token(text, *first, behind);
     let (_, rest) = text.split_at(len);
     (token, text.len(), rest)
+}
+
+/// Whether a text begins with a colon, behind blanks and comments.
+pub fn begins_colon(text: &[u8]) -> bool
+    ensures { result ≡ colon_first (placed text.now) }
+{
+    let (token, _, _) = lex(text);
+    matches!(token, Token::Mark(Mark::Colon))
 }

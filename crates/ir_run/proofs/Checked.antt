@@ -15,7 +15,8 @@ use Rattle.ir_laws.specs.Sets.{everything}
 use Rattle.ir_laws.specs.States.{FrameFits, StateFits}
 use Rattle.ir_laws.specs.Typed.{sizes_of, InstTyped, HereTyped, Typed, TypedOverNumbers}
 use Rattle.ir_run.specs.Elements.{HasSmallElement, HasSmallElementHere, HasSmallElements}
-use Rattle.ir_run.specs.Runs.{RunState, IsChecked, HasMade, IsRun}
+use Rattle.ir_model.specs.Checked.{IsChecked}
+use Rattle.ir_run.specs.Runs.{RunState, HasMade, IsRun}
 
 -- ---- frames that were made
 

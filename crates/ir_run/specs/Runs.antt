@@ -1,11 +1,8 @@
 -- Beyond the program's claim: only laws, proofs and functions inside the tool cite this file.
 -- Runs of a source as callers see them, and what a step answers.
 use Rattle.std.specs.Prelude.{◌≡◌, ℕ, suc, ◌<◌, ◌≤◌, ◌^◌, List, Some, None}
-use Rattle.ir_model.specs.Canonical.{IsWithinLimits}
-use Rattle.ir_model.specs.Plain.{PlainFirmware}
-use Rattle.ir_model.specs.Resolve.{resolve}
+use Rattle.ir_model.specs.Checked.{IsChecked}
 use Rattle.ir_model.specs.Runs.{source_after}
-use Rattle.ir_model.specs.Typing.{IsTyped}
 use Rattle.ir_model.specs.Resolved.{Program}
 use Rattle.ir_model.specs.State.{SourceState, Running, SourceTurn}
 use Rattle.ir_model.specs.State as state
@@ -21,13 +18,6 @@ pub record RunState : Type 0 where
   pub compartments : List ℕ
   pub state : SourceState
   pub taken : ℕ
-
--- the program of a firmware that passes the checks and is within the limits
-pub record IsChecked (p : Program) : Type 0 where
-  pub firmware : PlainFirmware
-  pub typed : IsTyped firmware
-  pub within : IsWithinLimits firmware
-  pub is : p ≡ resolve firmware
 
 -- no more frames than so many were made
 abbrev pub HasMade : ℕ → SourceState → Type 0

@@ -106,7 +106,8 @@ impl<'a> SourceRun<'a> {
     ghost use Rattle.ir_program.specs.Values.{value_of};
     ghost use Rattle.ir_run.specs.Acts.{IsCall};
     ghost use Rattle.ir_run.specs.Reads.{spot_of, frames_of, registers_of};
-    ghost use Rattle.ir_run.specs.Runs.{IsChecked, IsStep, AnswersDeclared};
+    ghost use Rattle.ir_model.specs.Checked.{IsChecked};
+    ghost use Rattle.ir_run.specs.Runs.{IsStep, AnswersDeclared};
 
     /// The run of a firmware with numbers for its names, with the compartment of each of its functions, and the words that
     /// each peripheral gives: `main` is entered.

@@ -11,7 +11,7 @@ use crate::blocks::Blocks;
 use machine_model::state::ProtectionState;
 use machine_protection::MPU_CTRL;
 use machine_protection::region::Access;
-use machine_protection::unit::Mpu;
+use machine_protection::unit::{Mpu, default_allows};
 use std::marker::Model;
 
 /// Whether a unit is on.
@@ -22,17 +22,6 @@ fn is_on(mpu: &Mpu) -> bool
     match mpu.read(MPU_CTRL) {
         Some(control) => control % 2 == 1,
         None => false,
-    }
-}
-
-/// What is allowed while a unit is off.
-#[inline(always)]
-fn default_allows(kind: Access, address: u32) -> bool
-    ensures { result ≡ protection.default_allows kind address }
-{
-    match kind {
-        Access::Read | Access::Write => true,
-        Access::Fetch => matches!(address, 0..0x4000_0000 | 0x6000_0000..0xA000_0000),
     }
 }
 

@@ -73,8 +73,9 @@ fn deciding(regions: &[Region], addr: u32) -> Option<Region>
     found
 }
 
-/// What is allowed where no region decides (B3.1).
-fn default_allows(kind: Access, addr: u32) -> bool
+/// Whether such an access of an address is allowed where no region decides, and while a unit is off (B3.1).
+#[inline(always)]
+pub fn default_allows(kind: Access, addr: u32) -> bool
     ensures { result ≡ protection.default_allows kind addr }
 {
     match kind {

@@ -96,5 +96,5 @@ pub least_sets_serve : TypedOverNumbers → LeastSetsServe
 least_sets_serve typing p S k l =
     record {
       closed = l.closed;
-      there = least_sets_have_objects p (sizes_of k.source) S (subst (λ q. Typed q (sizes_of k.source)) (sym k.same) (typing k.source k.typed k.limits)) l;
+      there = least_sets_have_objects p (sizes_of k.firmware) S (subst (λ q. Typed q (sizes_of k.firmware)) (sym k.is) (typing k.firmware k.typed k.within)) l;
     }

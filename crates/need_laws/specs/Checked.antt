@@ -1,21 +1,11 @@
--- The programs and the sets of objects that needs are made of.
+-- The sets of objects that needs are made of.
 use Rattle.std.specs.Prelude.{◌≡◌, true}
-use Rattle.ir_model.specs.Plain.{PlainFirmware}
 use Rattle.ir_model.specs.Resolved.{Program}
-use Rattle.ir_model.specs.Resolve.{resolve}
 use Rattle.ir_model.specs.State.{Object}
-use Rattle.ir_model.specs.Canonical.{IsWithinLimits}
-use Rattle.ir_model.specs.Typing.{IsTyped}
+use Rattle.ir_model.specs.Checked.{IsChecked}
 use Rattle.ir_laws.specs.Sets.{Node, ObjectSets, Closed}
 use Rattle.plan_model.specs.PointsTo.{IsLeast}
 use Rattle.need_laws.specs.Laws.{IsThere}
-
--- a program is that of a firmware that is typed and within the limits
-pub record IsChecked (p : Program) : Type 0 where
-  pub source : PlainFirmware
-  pub typed : IsTyped source
-  pub limits : IsWithinLimits source
-  pub same : p ≡ resolve source
 
 -- sets that no step leaves, of objects of the program alone, as the least ones are
 pub record AreSets (p : Program) (S : ObjectSets) : Type 0 where

@@ -5,16 +5,16 @@ use Rattle.ir_model.specs.Canonical.{IsWithinLimits}
 use Rattle.ir_model.specs.Typing.{IsTyped}
 use Rattle.ir_model.specs.Resolved.{Program}
 use Rattle.ir_model.specs.Resolve.{resolve}
+use Rattle.ir_model.specs.Checked.{IsChecked}
 use Rattle.ir_laws.specs.Sets.{ObjectSets}
 use Rattle.plan_model.specs.declared.needs.Needs.{Needs}
 use Rattle.plan_model.specs.Needs.{AreNeeds}
 use Rattle.plan_model.specs.PointsTo.{IsLeast}
-use Rattle.need_laws.specs.Checked.{IsChecked}
 use Rattle.plan_compartments.specs.Analyses.{AreNeedsOf}
 use Rattle.ir_laws.proofs.Resolved.{as_many}
 
 pub checked : (p : Program) (w : PlainFirmware) → IsTyped w → IsWithinLimits w → p ≡ resolve w → IsChecked p
-checked p w t l e = record { source = w; typed = t; limits = l; same = e }
+checked p w t l e = record { firmware = w; typed = t; within = l; is = e }
 
 pub needs_of : (p : Program) (w : PlainFirmware) (S : ObjectSets) (closed : Bool) (n : Needs) → p ≡ resolve w → IsLeast p S → AreNeeds p S closed n
     → AreNeedsOf w closed n

@@ -26,7 +26,7 @@ is_planned w n b g x k serve typed within needs board are =
       typed = typed;
       within = within;
       sets = needs.sets;
-      are_sets = serve (resolve w) needs.sets (record { source = w; typed = typed; limits = within; same = refl }) needs.least;
+      are_sets = serve (resolve w) needs.sets (record { firmware = w; typed = typed; within = within; is = refl }) needs.least;
       needs = needs.needs;
       groups = are;
       limits = subst (λ (y : Groups). KeepsLimits n y) (sym k.groups) k.limits;

@@ -202,11 +202,11 @@ pub fn put_periph(text: &mut Text, firmware: &Firmware, periph: usize) -> Result
 }
 
 /// Puts the names of globals, each behind a space.
-pub(crate) fn put_globals(
-    text: &mut Text,
-    firmware: &Firmware,
-    globals: &[u32],
-) -> Result<(), AllocError>
+///
+/// # Errors
+///
+/// There is no memory for them.
+pub fn put_globals(text: &mut Text, firmware: &Firmware, globals: &[u32]) -> Result<(), AllocError>
     ensures { OnOk result (text.new ≡ text.old ++ names.spaced (map (names.global_name (firmware_of firmware.now)) globals.now)) }
 {
     for i in 0..globals.len() {

@@ -1,20 +1,20 @@
 use Rattle.std.proofs.Common.{sym, subst}
 use Rattle.std.proofs.lemmas.Result.{IfOk-weaker}
 use Rattle.ir_model.specs.Plain.{firmware_of}
+use Rattle.ir_model.specs.Checked.{IsChecked}
 use Rattle.ir_program.specs.Seen.{program_of}
 use Rattle.ir_laws.specs.Limits.{AreFew}
 use Rattle.need_sets.specs.Sets.{sets_of}
-use Rattle.need_laws.specs.Checked.{IsChecked}
 use Rattle.needs.proofs.Bounded.{small_numbers}
 use Rattle.aces_why.proofs.finding.findings.Goals as goal
 
 pub found_by-requires-clause-program : goal.found_by-requires-clause-program
-found_by-requires-clause-program c = record { source = firmware_of c.args.firmware.now; typed = c.firmware.ensures.typed; limits = c.firmware.ensures.within; same = c.requires.program }
+found_by-requires-clause-program c = record { firmware = firmware_of c.args.firmware.now; typed = c.firmware.ensures.typed; within = c.firmware.ensures.within; is = c.requires.program }
 
 pub found_by-requires-clause-sets : goal.found_by-requires-clause-sets
 found_by-requires-clause-sets c =
     let p = program_of c.args.program.now in
-    let checked : IsChecked p = record { source = firmware_of c.args.firmware.now; typed = c.firmware.ensures.typed; limits = c.firmware.ensures.within; same = c.requires.program } in
+    let checked : IsChecked p = record { firmware = firmware_of c.args.firmware.now; typed = c.firmware.ensures.typed; within = c.firmware.ensures.within; is = c.requires.program } in
     c.least_sets.ensures.serve p (sets_of c.in_ok-sets.sets) checked c.in_ok-sets.ensures
 
 pub found_by-requires-clause-numbers : goal.found_by-requires-clause-numbers
