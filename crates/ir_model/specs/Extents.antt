@@ -1,6 +1,7 @@
 -- Beyond the program's claim: only laws, proofs and functions inside the tool cite this file.
 -- Sizes and alignments where a size may pass the limit, and where a struct may not be declared.
 use Rattle.std.specs.Prelude.{Bool, ◌&&◌, true, false, ℕ, ◌+◌, ◌*◌, ◌<◌, List, [], ◌∷◌, ◌++◌, if◌then◌else◌, max, Option, Some, None, option_and_then, nat_le, bytes_eq}
+use Rattle.base_laws.specs.Lists.{Each}
 use Rattle.ir_model.specs.declared.extent.Extent.{Extent}
 use Rattle.ir_model.specs.declared.extent.TheConstants.{SIZE_LIMIT}
 use Rattle.ir_model.specs.Types.{PlainType, U8, U16, U32, Pointer, Array, Named, Callee}
@@ -102,9 +103,7 @@ HasElements (Array n t) = (0 < n) × HasElements t
 HasElements _ = Unit {0}
 
 abbrev pub EachHasElements : List PlainBinding → Type 0
-EachHasElements [] = Unit {0}
-EachHasElements (f ∷ fs) = HasElements f.ty × EachHasElements fs
+EachHasElements fs = Each (λ (f : PlainBinding). HasElements f.ty) fs
 
 abbrev pub AllHaveElements : List PlainStruct → Type 0
-AllHaveElements [] = Unit {0}
-AllHaveElements (s ∷ ss) = EachHasElements s.fields × AllHaveElements ss
+AllHaveElements ss = Each (λ (s : PlainStruct). EachHasElements s.fields) ss

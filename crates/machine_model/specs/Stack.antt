@@ -1,5 +1,6 @@
 -- Words of RAM by their addresses, and the right to access them.
 use Rattle.std.specs.Prelude.{◌≡◌, ℕ, zero, suc, ◌+◌, ◌*◌, ◌%◌, ◌^◌, ◌<◌, ◌≤◌, List, [], ◌∷◌, true}
+use Rattle.base_laws.specs.Lists.{EachBelow}
 use Rattle.base_words.specs.Bytes.{read, cut}
 use Rattle.machine_protection.specs.declared.region.Access.{Access}
 use Rattle.machine_protection.specs.declared.region.Access.TheVariants.{Read, Write}
@@ -26,8 +27,7 @@ cut_words [] = []
 cut_words (v ∷ vs) = cut 4 v ∷ cut_words vs
 
 abbrev pub AreWords : List ℕ → Type 0
-AreWords [] = Unit {0}
-AreWords (v ∷ vs) = (v < 2 ^ 32) × AreWords vs
+AreWords vs = EachBelow (2 ^ 32) vs
 
 -- each of them permits this access
 abbrev pub May : PermissionTest → ProtectionState → Access → (address count : ℕ) → Type 0

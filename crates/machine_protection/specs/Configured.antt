@@ -1,6 +1,7 @@
 -- A unit whose regions software has written: which of them decides, the region with open eighths, and each write.
 use Rattle.std.specs.Prelude.{◌≡◌, ℕ, ◌+◌, ◌-◌, ◌*◌, ◌/◌, ◌%◌, ◌^◌, ◌<◌, ◌≤◌, ◌⊎◌, ◌↔◌, Bool, true, false, List, [], ◌∷◌, ◌++◌, length, map, Some, None, IsTrue}
 use Rattle.std.specs.Int.{IsPowerOfTwo, bit_at}
+use Rattle.base_laws.specs.Lists.{Each}
 use Rattle.machine_protection.specs.declared.region.Region.{Region}
 use Rattle.machine_protection.specs.declared.region.Access.{Access}
 use Rattle.machine_protection.specs.declared.words.Rights.{Rights}
@@ -15,8 +16,7 @@ use Rattle.machine_protection.specs.Laws.{kept_region}
 
 -- none of these regions holds the address
 abbrev pub NoneOf : List Region → (address : ℕ) → Type 0
-NoneOf [] a = Unit {0}
-NoneOf (g ∷ gs) a = (holds g a ≡ false) × NoneOf gs a
+NoneOf gs a = Each (λ (g : Region). holds g a ≡ false) gs
 
 -- this is the last of these regions that holds the address
 abbrev pub IsLast : List Region → (address : ℕ) → Region → Type 0
