@@ -1,7 +1,6 @@
 -- What an assembler holds. Addresses and sizes are in bytes.
 use Rattle.std.specs.Prelude.{◌≡◌, ℕ, ◌+◌, ◌%◌, ◌<◌, ◌^◌, List, [], ◌∷◌, length, take, Option, Some, None, IsSome}
 use Rattle.std.proofs.Math.ListN.{get_or}
-use Rattle.base_laws.specs.Lists.{Each}
 use Rattle.machine_thumb.specs.Table.{InTable, encode, width_of}
 use Rattle.machine_thumb_asm.specs.declared.item.BranchKind.{BranchKind}
 use Rattle.machine_thumb_asm.specs.declared.item.BranchKind.TheVariants.{Cond, Short, Long, Link}
@@ -55,7 +54,8 @@ IsItem n (Half h) = h < 2 ^ 16
 IsItem n (Word w) = w < 2 ^ 32
 
 abbrev pub AreItems : (labels : ℕ) → List Item → Type 0
-AreItems n is = Each (IsItem n) is
+AreItems n [] = Unit {0}
+AreItems n (i ∷ is) = IsItem n i × AreItems n is
 
 -- each label that a branch goes to was put
 abbrev pub ArePut : (places : List (Option ℕ)) → List Item → Type 0
