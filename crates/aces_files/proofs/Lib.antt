@@ -4,6 +4,7 @@ mod Whole
 pub mod Asked
 pub mod Ends
 mod Reading
+mod Unchanged
 pub mod OneFile
 pub mod TwoFiles
 pub mod Printing

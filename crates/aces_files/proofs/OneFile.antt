@@ -1,12 +1,11 @@
 -- What a command on one file did, by what its steps answered.
-use Rattle.std.proofs.Common.{◌≡◌, ℕ, List, All, [], ◌∷◌, inl, None, Ok, Err, Result, refl, ap, sym, subst}
+use Rattle.std.proofs.Common.{◌≡◌, ℕ, List, All, [], ◌∷◌, inl, None, Ok, Err, Result, refl, sym, subst}
 use Rattle.base_outside.specs.declared.files.Files as files
 use Rattle.base_outside.specs.Calls.{Call}
 use Rattle.base_outside.specs.Reading.{Reads}
 use Rattle.base_outside.specs.Sinks.{SinkState}
 use Rattle.aces_reports.specs.declared.failure.Done.{Done}
 use Rattle.aces_reports.specs.declared.failure.Failure.{Failure}
-use Rattle.aces_reports.specs.declared.failure.Failure.TheVariants.{Refused, PastLimit, Denied, NoRoom, Unread, Unwritten, Unprinted, NoMemory}
 use Rattle.aces_reports.specs.Ends.{status_of}
 use Rattle.aces_words.specs.Requests.{Request, Origin, origins}
 use Rattle.aces_files.specs.Answers.{AnswerByFile, too_large, read}
@@ -17,7 +16,8 @@ use Rattle.aces_files.specs.Loads.{IsRefusal, IsRead, IsNotRead}
 use Rattle.aces_files.specs.Outcomes.{Outcome, done}
 use Rattle.aces_files.specs.Tellings.{Prints}
 use Rattle.aces_files.proofs.Asked.{first_named, reads_of}
-use Rattle.aces_files.proofs.Ends.{load_failed, refusal_did, refusal_names, refusal_also, did_end}
+use Rattle.aces_files.proofs.Unchanged as unchanged
+use Rattle.aces_files.proofs.Ends.{load_failed, refusal_also}
 
 module _ {F : Type 0} (of : files.Ghosts F) (old new : F) (s : Origin) (r : Request) (takes : origins r ≡ s ∷ []) (A : (bytes : List ℕ) → Outcome → Type 0) where
   pub asked : (calls : List Call) → All (Reads s.name) calls → All (IsCallOf r) calls
@@ -47,40 +47,13 @@ module _ {F : Type 0} (of : files.Ghosts F) (old new : F) (s : Origin) (r : Requ
 
     -- what it holds is refused
     pub refused : (out : SinkState) (e : Failure) → IsRefusal (A bytes) e → CarriesOut (AnswerByFile s A) of old new r out out (Err e)
-    refused out e f = (
-      h.calls,
-      h.are,
-      asked h.calls h.reads,
-      refusal_did By r (world of old out) (world of new out) (record { held = h.same; write_faults = h.write_faults; out = refl }) h.read_faults e
-          (refusal_also (A bytes) By answered e f),
-      refusal_names h.calls (A bytes) e f,
-    )
+    refused out e f =
+        unchanged.refused of old new r (AnswerByFile s A) h.calls h.are (asked h.calls h.reads) h.same h.read_faults h.write_faults out e
+        (refusal_also (A bytes) By answered e f)
 
     -- lines are printed, or not
     pub printed : (before after : SinkState) (lines : List ℕ) (d : Done) → A bytes (done (status_of (Ok d)) lines None)
         → (e : Result Done Failure) → Prints before after lines d e → CarriesOut (AnswerByFile s A) of old new r before after e
-    printed before after lines d a (Ok e) p = (
-      h.calls,
-      h.are,
-      asked h.calls h.reads,
-      did_end By r (world of old before) (world of new after) (done (status_of (Ok d)) lines None) e (answered _ a) (ap (λ x. status_of (Ok x)) (sym p.0)) refl
-          (record { printed = p.1.1; held = h.same; read_faults = h.read_faults; write_faults = h.write_faults; faults = p.1.0 }),
-      tt,
-    )
-    printed before after lines d a (Err (Refused name f)) p = absurd p
-    printed before after lines d a (Err (PastLimit which count)) p = absurd p
-    printed before after lines d a (Err (Denied said)) p = absurd p
-    printed before after lines d a (Err (NoRoom lack)) p = absurd p
-    printed before after lines d a (Err (Unread name)) p = absurd p
-    printed before after lines d a (Err (Unwritten name)) p = absurd p
-    printed before after lines d a (Err Unprinted) p = (
-      h.calls,
-      h.are,
-      asked h.calls h.reads,
-      (
-        record { rose = p.0; held = h.same; read_faults = h.read_faults; write_faults = h.write_faults },
-        record { outcome = done (status_of (Ok d)) lines None; answer = answered _ a; part = record { printed = p.1; held = h.same } },
-      ),
-      tt,
-    )
-    printed before after lines d a (Err NoMemory) p = absurd p
+    printed before after lines d a e p =
+        unchanged.printed of old new r (AnswerByFile s A) h.calls h.are (asked h.calls h.reads) h.same h.read_faults h.write_faults before after lines d
+        (answered (done (status_of (Ok d)) lines None) a) e p

@@ -9,11 +9,10 @@ use Rattle.aces_reports.specs.Ends.{status_of}
 use Rattle.base_outside.specs.Sinks.{SinkState, Puts}
 use Rattle.aces_words.specs.Requests.{Request, Origin}
 use Rattle.aces_files.specs.CarriesOut.{CarriesOut, IsKnown, IsKnownLarge}
-use Rattle.aces_files.specs.Effects.{world}
 use Rattle.aces_files.specs.Known.{IsCallOf}
 use Rattle.aces_files.specs.Loads.{IsRefusal}
 use Rattle.aces_files.specs.Outcomes.{Outcome, done}
-use Rattle.aces_files.proofs.Ends.{did_end, refusal_did, refusal_names}
+use Rattle.aces_files.proofs.Unchanged as unchanged
 
 module _ {F : Type 0} (of : files.Ghosts F) (fs : F) (r : Request)
     (Answer : (Has : Origin → List ℕ → Type 0) (Exceeds : Origin → Type 0) → Outcome → Type 0) where
@@ -24,35 +23,13 @@ module _ {F : Type 0} (of : files.Ghosts F) (fs : F) (r : Request)
   -- lines were printed
   pub printed : (before after : SinkState) (lines : List ℕ) (d : Done) → By (done (status_of (Ok d)) lines None)
       → Puts before after lines true → CarriesOut Answer of fs fs r before after (Ok d)
-  printed before after lines d a p = (
-    [],
-    refl,
-    All-nil (IsCallOf r),
-    did_end By r (world of fs before) (world of fs after) (done (status_of (Ok d)) lines None) d a refl refl
-        (record { printed = p.1; held = refl; read_faults = refl; write_faults = refl; faults = p.0 }),
-    tt,
-  )
+  printed before after lines d a p = unchanged.printed of fs fs r Answer [] refl (All-nil (IsCallOf r)) refl refl refl before after lines d a (Ok d) (refl, p)
 
   -- the output failed
   pub unprinted : (before after : SinkState) (lines : List ℕ) (d : Done) → By (done (status_of (Ok d)) lines None)
       → Puts before after lines false → CarriesOut Answer of fs fs r before after (Err Unprinted)
-  unprinted before after lines d a p = (
-    [],
-    refl,
-    All-nil (IsCallOf r),
-    (
-      record { rose = p.0; held = refl; read_faults = refl; write_faults = refl },
-      record { outcome = done (status_of (Ok d)) lines None; answer = a; part = record { printed = p.1; held = refl } },
-    ),
-    tt,
-  )
+  unprinted before after lines d a p = unchanged.printed of fs fs r Answer [] refl (All-nil (IsCallOf r)) refl refl refl before after lines d a (Err Unprinted) p
 
   -- it was refused
   pub refused : (out : SinkState) (e : Failure) → IsRefusal By e → CarriesOut Answer of fs fs r out out (Err e)
-  refused out e f = (
-    [],
-    refl,
-    All-nil (IsCallOf r),
-    refusal_did By r (world of fs out) (world of fs out) (record { held = refl; write_faults = refl; out = refl }) refl e f,
-    refusal_names [] By e f,
-  )
+  refused out e f = unchanged.refused of fs fs r Answer [] refl (All-nil (IsCallOf r)) refl refl refl out e f

@@ -1,10 +1,8 @@
 -- What the slots of a planned firmware's compartments hold is of their permissions.
-use Rattle.std.proofs.Common.{◌≡◌, ℕ, ◌<◌, ◌≤◌, ◌%◌, inl, inr, Bool, true, false, ◌&&◌, List, [], ◌∷◌, length, map, get_or, sym, ◌∙◌, subst, lit<, arith}
+use Rattle.std.proofs.Common.{◌≡◌, ℕ, ◌<◌, ◌%◌, inl, inr, Bool, true, ◌&&◌, List, [], ◌∷◌, length, get_or, sym, subst, lit<, arith}
 use Rattle.std.specs.List.{list_any}
-use Rattle.std.proofs.lemmas.Bool.{cases_lt, or_left, or_right, and_from as both}
-use Rattle.std.proofs.lemmas.List.{get_or_past}
+use Rattle.std.proofs.lemmas.Bool.{or_left, or_right, and_from as both}
 use Rattle.std.proofs.lemmas.List.Folds.{list_any_at}
-use Rattle.std.proofs.lemmas.List.FromFn.{length-map-range_with_len}
 use Rattle.std.proofs.Math.Pow.{pow_mono}
 use mathlib.Core.Logic.{⊎_elim}
 use Rattle.machine_model.specs.Confinement.{AnyOf}
@@ -22,34 +20,30 @@ use Rattle.plan_model.specs.declared.graph.DataRegion as data_region
 use Rattle.plan_model.specs.declared.plan.Plan.{Plan}
 use Rattle.plan_model.specs.declared.plan.Sizes.{Sizes}
 use Rattle.plan_model.specs.Boards.{slots_of}
-use Rattle.plan_model.specs.Lists.{has, numbers_below}
-use Rattle.plan_model.specs.Regions.{region_at, regions_used, is_user, no_region}
+use Rattle.plan_model.specs.Lists.{has}
+use Rattle.plan_model.specs.Regions.{region_at, is_user, no_region}
 use Rattle.plan_model.specs.Blocks.{region_bytes}
 use Rattle.plan_model.specs.Covers.{is_inside}
 use Rattle.plan_model.specs.InitialGraph.{cover_of}
 use Rattle.plan_model.specs.RamBlocks.{RamUse, ForStack, ForMonitor, ForRegion, ForUnwritten}
 use Rattle.plan_model.specs.Placement.{region_spot}
 use Rattle.plan_model.specs.Permission.{may_write, may_read}
-use Rattle.plan_model.specs.Slots.{SlotUse, free_slot, data_slot, cover_slot, slot_uses}
+use Rattle.plan_model.specs.Slots.{data_slot, cover_slot}
 use Rattle.plan_layout_laws.specs.RamLaws.{HoldsAddress}
-use Rattle.monitor_model.specs.declared.tables.CompRecord.{CompRecord}
-use Rattle.monitor_model.specs.Records.{compartment_at, nobody}
-use Rattle.image_model.specs.LinkedTables.{tables_of, comp_record}
+use Rattle.monitor_model.specs.Records.{compartment_at}
 use Rattle.image_promises.specs.Planned.{planned_tables}
 use Rattle.plan.specs.PlannedFirmwares.{plan, planned_sizes}
 use Rattle.image_promises.proofs.PlannedPremises.{PlannedPremises, planned_of}
-use Rattle.image_promises.proofs.PlannedSlots.{slot_limits, slots_at}
 use Rattle.image_promises.proofs.Ranges.{globals_for}
 use Rattle.image_promises.specs.Permissions.{IsOf, IsByteOf, IsOnPeripherals, IsInData, IsPermitted, OnPeripherals, InData, SlotsArePermitted, SlotsHoldPermissions}
-use Rattle.base_laws.proofs.Lists.{each_both, each_to}
-use Rattle.image_promises.proofs.Lists.{each_passing, each_map, below_all}
+use Rattle.base_laws.proofs.Lists.{each_to}
 use Rattle.image_promises.proofs.Bearing.{use_region}
 use Rattle.image_promises.proofs.CoverWindows.{IsFilled, covers_are_filled, whole_inside}
 use Rattle.image_promises.proofs.GlobalPlaces.{placed, byte_held, same_or_other}
 use Rattle.image_promises.proofs.DataSlots.{slot_holds, Stores, writes_there}
 use Rattle.image_promises.proofs.DataRanges as ranges
 use Rattle.image_promises.proofs.Opened.{SlotLaws}
-use Rattle.image_promises.proofs.OneSlot.{free_holds, one_slot, open_within}
+use Rattle.image_promises.proofs.OneSlot.{open_within, Serves, slot_serves}
 
 -- ---- lists
 
@@ -145,17 +139,9 @@ module _ (law : SlotLaws) (windows : WindowsLieApart) (planned : PlannedPremises
     abbrev Goal : Type 0
     Goal = IsPermitted w n f b may c a
 
-    abbrev Serves : SlotUse → Type 0
-    Serves u = (m : ℕ) → m < 16 → Q (use_region m u) → Goal
-
-    data_serves : (r : ℕ) → (r < length f.regions) × (is_user c (region_at f.regions r) ≡ true) → Serves (data_slot p f l c r)
+    data_serves : (r : ℕ) → (r < length f.regions) × (is_user c (region_at f.regions r) ≡ true) → Serves Q Goal (data_slot p f l c r)
     data_serves r (lt, user) m number q =
         InData (in_data may a r lt ((slot_holds law.of_data planned c r a m lt number).0 (holds_it (use_region m (data_slot p f l c r)) q)) (may_global r m user lt q))
-
-    used : Each (λ r. (r < length f.regions) × (is_user c (region_at f.regions r) ≡ true)) (regions_used f.regions c)
-    used =
-        each_passing (λ r. r < length f.regions) (λ r. (r < length f.regions) × (is_user c (region_at f.regions r) ≡ true)) (λ r. is_user c (region_at f.regions r)) (numbers_below (length f.regions))
-        (λ r lt t. (lt, t)) (below_all 0 (length f.regions) (length f.regions) (omega arith))
 
     abbrev covers : List Cover
     covers = get_or f.covers c []
@@ -170,31 +156,12 @@ module _ (law : SlotLaws) (windows : WindowsLieApart) (planned : PlannedPremises
         (each_two (λ d. (x : Cover) → is_inside x d ≡ true → list_any (is_inside x) covers ≡ true) (λ d. IsOnPeripherals w n f b may a d → AnyOf (IsOnPeripherals w n f b may a) covers) covers
         (each_passes is_inside covers) (each_among (IsOnPeripherals w n f b may a) covers))
 
-    cover_serves : (d : Cover) → IsGood d → Serves (cover_slot d)
+    cover_serves : (d : Cover) → IsGood d → Serves Q Goal (cover_slot d)
     cover_serves d (filled, has_it) m number q =
         OnPeripherals (has_it.1 (open_range may a d filled (λ x e. may_periph x (has_it.0 (cover_of p x) e)) m number (holds_it (use_region m (cover_slot d)) q)))
 
-    all_serve : Each Serves (slot_uses p f l c)
-    all_serve =
-        each_both Serves (map (data_slot p f l c) (regions_used f.regions c)) (map cover_slot covers)
-        (each_map Serves (data_slot p f l c) (λ r. (r < length f.regions) × (is_user c (region_at f.regions r) ≡ true)) (regions_used f.regions c) data_serves used)
-        (each_map Serves cover_slot IsGood covers cover_serves good)
-
     slot_permits : AnyOf Q (compartment_at (planned_tables w n f b) c).slots → Goal
-    unfolding tables_of
-    slot_permits h = ⊎_elim inner outer (cases_lt c f.groups.count)
-      where
-        free : (number : ℕ) → Q (free_slot number) → Goal
-        free number q = absurd (let none = free_holds a number in let wrong : false ≡ true = sym none ∙ holds_it (free_slot number) q in cc)
-
-        inner : c < f.groups.count → Goal
-        inner lt = one_slot Q Goal free (slot_uses p f l c) 4 (slots_of b) (slot_limits planned).1 all_serve (subst (AnyOf Q) (slots_at planned c lt) h)
-
-        outer : f.groups.count ≤ c → Goal
-        outer le =
-            let size = length-map-range_with_len (comp_record p f l (slots_of b)) 0 f.groups.count in
-            let none = get_or_past (map (comp_record p f l (slots_of b)) (numbers_below f.groups.count)) c nobody (omega (arith, size, le)) in
-            absurd (subst (λ (r : CompRecord). AnyOf Q r.slots) none h)
+    slot_permits = slot_serves planned c a Q Goal holds_it IsGood data_serves cover_serves (λ lt. good)
 
   -- ---- who may store and load
 

@@ -4,3 +4,4 @@ pub mod Placed
 mod Searches
 pub mod Offsets
 pub mod Lengths
+pub mod WordBytes

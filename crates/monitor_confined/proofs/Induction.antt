@@ -17,10 +17,11 @@ use Rattle.monitor_model.specs.Block.{Saved, MonitorBlock, first_block}
 use Rattle.monitor_model.specs.BlockWords.{depth, saved_current, saved_top, HasSaved, IsBlock}
 use Rattle.monitor_model.specs.Invariant.{InvariantHolds}
 use Rattle.monitor_model.specs.Reach.{AllBytes, StoreKind, LoadKind}
-use Rattle.monitor_model.specs.Confined.{IsProtected, Crosses, ComesBack, Stays, StartUp, HasStarted, AreNext, RunIsConfined, later}
+use Rattle.monitor_model.specs.Confined.{IsProtected, Crosses, ComesBack, Stays, StartUp, AreNext, RunIsConfined, later}
 use Rattle.monitor_model.specs.Handlers.{at_svc, at_memfault, HasEndedInHandler, Handles, Change, Emulates, Enters, Leaves, Lends, Unlends, HasReturned, Handled, HandlersAreConfined}
 use Rattle.monitor_confined.specs.ThreadSteps.{LeadsOn, Ends, Goes, Calls, Faults, ThreadStepsAreConfined, ThreadStepsLead}
 use Rattle.monitor_confined.specs.WholeRuns.{ChangesKeepOrder, HandlersConfineRuns, HandlersConfineImages}
+use Rattle.monitor_confined.proofs.Started.{reached}
 
 -- what the steps of threads and the changes of the block keep
 pub record RunLaws : Type 0 where
@@ -210,9 +211,6 @@ module _ (laws : RunLaws) (i : Image) (t : Tables) (p : Placed i t) (contract : 
   -- ---- the run
 
   module _ (first : State) (begins : StartUp i t first) (m : MonitorBlock) (holds : InvariantHolds i t m (later i t first begins.count)) where
-    reached : (n : ℕ) → HasStarted i t first n → begins.count ≤ n
-    reached n h = ⊎_elim (λ lt. absurd (false≢true (sym (begins.privileged h.0 lt) ∙ h.2))) (λ le. let k = h.1 in omega (arith, k, le)) (cases_lt h.0 begins.count)
-
     phase_at : (n : ℕ) → begins.count ≤ n → Phase (later i t first n)
     phase_at n le =
         let z : begins.count + (n - begins.count) ≡ n = omega (arith, le) in
@@ -235,10 +233,10 @@ module _ (laws : RunLaws) (i : Image) (t : Tables) (p : Placed i t) (contract : 
     pub run_confined : RunIsConfined i t first
     run_confined = record {
       start_up = begins;
-      stores = λ n h. (phase_fine (later i t first n) (phase_at n (reached n h))).stores;
-      protection = λ n h. (phase_fine (later i t first n) (phase_at n (reached n h))).protection;
-      switches = λ a n h next. switches_at a n (reached a h) next;
-      loads = λ closed n h. (phase_fine (later i t first n) (phase_at n (reached n h))).loads closed;
+      stores = λ n h. (phase_fine (later i t first n) (phase_at n (reached i t first begins n h))).stores;
+      protection = λ n h. (phase_fine (later i t first n) (phase_at n (reached i t first begins n h))).protection;
+      switches = λ a n h next. switches_at a n (reached i t first begins a h) next;
+      loads = λ closed n h. (phase_fine (later i t first n) (phase_at n (reached i t first begins n h))).loads closed;
     }
 
 pub handlers_confine_runs : RunLaws → HandlersConfineRuns

@@ -16,6 +16,7 @@ use Rattle.monitor_model.specs.Invariant.{InvariantHolds}
 use Rattle.monitor_model.specs.MonitorLaw.{MonitorLaw}
 use Rattle.monitor_model.specs.Handlers.{HasEndedInHandler, Handles}
 use Rattle.monitor_model.specs.Confined.{StartUp, HasStarted, AreNext, later}
+use Rattle.monitor_confined.proofs.Started.{reached}
 use Rattle.monitor_runs.specs.WhoRuns.{IsBack}
 use Rattle.monitor_runs.proofs.Segments.{RunLaws, Rest, InThread, Over, Segment, segment}
 
@@ -118,9 +119,6 @@ module _ (laws : RunLaws) (i : Image) (t : Tables) (p : Placed i t) (stub : ℕ)
   -- ---- from start-up on
 
   module _ (begins : StartUp i t first) (m : MonitorBlock) (holds : InvariantHolds i t m (at begins.count)) where
-    pub reached : (n : ℕ) → HasStarted i t first n → begins.count ≤ n
-    reached n h = ⊎_elim (λ lt. absurd (false≢true (sym (begins.privileged h.0 lt) ∙ h.2))) (λ le. let k = h.1 in omega (arith, k, le)) (cases_lt h.0 begins.count)
-
     abbrev Nothing : ℕ → Type 0
     Nothing n = Unit {0}
 
@@ -128,7 +126,7 @@ module _ (laws : RunLaws) (i : Image) (t : Tables) (p : Placed i t) (stub : ℕ)
     Plain n = Track Nothing (λ a n m h g lt e f. tt) n
 
     plain_at : (n : ℕ) → HasStarted i t first n → Plain n
-    plain_at n h = track Nothing (λ a n m h g lt e f. tt) begins.count n (reached n h) (Thread m holds tt)
+    plain_at n h = track Nothing (λ a n m h g lt e f. tt) begins.count n (reached i t first begins n h) (Thread m holds tt)
 
     -- at a thread's step the invariant holds
     pub holds_at : (n : ℕ) → HasStarted i t first n → (at n).protection.handler ≡ false → (b : MonitorBlock) × InvariantHolds i t b (at n)

@@ -1,8 +1,8 @@
 -- The frame at which a caller waits stays, where no live loan of a compartment that acts meanwhile meets it.
-use Rattle.std.proofs.Common.{◌≡◌, ℕ, zero, suc, ◌+◌, ◌-◌, ◌*◌, ◌<◌, ◌≤◌, ◌⊎◌, inl, inr, ⊎_elim, false, List, [], ◌∷◌, ◌++◌, length, ap, ◌∙◌, subst, arith}
+use Rattle.std.proofs.Common.{◌≡◌, ℕ, zero, suc, ◌+◌, ◌-◌, ◌<◌, ◌≤◌, ◌⊎◌, inl, inr, ⊎_elim, false, List, [], ◌∷◌, ◌++◌, length, ap, ◌∙◌, subst, arith}
 use Rattle.base_words.specs.Bytes.{read}
-use Rattle.base_words.proofs.Bytes.{read_add}
 use Rattle.machine_devices.specs.declared.image.Image.{Image}
+use Rattle.machine_bus.proofs.WordBytes.{word_bytes}
 use Rattle.machine_model.specs.State.{State}
 use Rattle.machine_model.specs.Exceptions.{frame_at}
 use Rattle.monitor_model.specs.declared.tables.Tables.{Tables}
@@ -30,14 +30,6 @@ word_alike a m n h =
     let h2 = h 2 (omega arith) in
     let h3 = h 3 (omega arith) in
     omega (arith, x, y, h0, h1, h2, h3)
-  where
-    word_bytes : (a : ℕ) (m : List ℕ) → read 4 a m ≡ read 1 a m + 256 * read 1 (a + 1) m + 65536 * read 1 (a + 2) m + 16777216 * read 1 (a + 3) m
-    word_bytes a m =
-        let x = read_add 2 2 a m in
-        let y = read_add 1 1 a m in
-        let z = read_add 1 1 (a + 2) m in
-        let e : read 1 (a + 2 + 1) m ≡ read 1 (a + 3) m = (let q : a + 2 + 1 ≡ a + 3 = omega arith in ap (λ a. read 1 a m) q) in
-        omega (arith, x, y, z, e)
 
 -- ---- the entry behind others
 
