@@ -2,7 +2,7 @@
 use Rattle.std.proofs.Common.{◌≡◌, ℕ, ◌-◌, ◌<◌, ◌≤◌, true, false, List, length, get_or, arith, leb, refl, zero, suc}
 use Rattle.std.specs.List.Sorted.{IsPartitionPoint}
 use Rattle.std.proofs.lemmas.Bool.{leb-true, leb-false}
-use Rattle.ir_layouts.specs.declared.table.Field.{Field}
+use Rattle.ir_layouts.specs.declared.struct_layout.Field.{Field}
 use Rattle.ir_cells.specs.Halving.{IsFirstAbove, IsLastWithin}
 
 abbrev pub Splits : (Field → ℕ) → List Field → (most place : ℕ) → Type 0

@@ -15,8 +15,8 @@ use Rattle.ir_model.specs.Layout.{CellPlace, FieldPlace, Shape, Known, empty, sh
 use Rattle.ir_model.proofs.Counting.{many_at_least}
 use Rattle.ir_layouts.specs.declared.measure.Measure.{Measure}
 use Rattle.ir_cells.specs.declared.spot.CellSpot.{CellSpot}
-use Rattle.ir_layouts.specs.declared.table.Field.{Field}
-use Rattle.ir_layouts.specs.declared.table.StructLayout.{StructLayout}
+use Rattle.ir_layouts.specs.declared.struct_layout.Field.{Field}
+use Rattle.ir_layouts.specs.declared.struct_layout.StructLayout.{StructLayout}
 use Rattle.ir_cells.specs.Cells.{cell_of}
 use Rattle.ir_layouts.specs.Fields.{place_of}
 use Rattle.ir_layouts.specs.Measures.{capped, IsMeasure}

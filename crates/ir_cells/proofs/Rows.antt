@@ -9,8 +9,8 @@ use Rattle.ir_model.specs.Types.{PlainType, Array, Named, type_of}
 use Rattle.ir_model.specs.Plain.{PlainStruct, struct_of}
 use Rattle.ir_model.specs.Layout.{CellPlace, Shape, shape, shifted, copies, known}
 use Rattle.ir_layouts.specs.declared.measure.Measure.{Measure}
-use Rattle.ir_layouts.specs.declared.table.Field.{Field}
-use Rattle.ir_layouts.specs.declared.table.StructLayout.{StructLayout}
+use Rattle.ir_layouts.specs.declared.struct_layout.Field.{Field}
+use Rattle.ir_layouts.specs.declared.struct_layout.StructLayout.{StructLayout}
 use Rattle.ir_layouts.specs.Measures.{IsMeasure}
 use Rattle.ir_cells.specs.Cells.{lent_types, types_of}
 use Rattle.ir_layouts.specs.Fields.{place_of}

@@ -5,8 +5,8 @@ use Rattle.std.specs.List.Sorted.{IsNonDecreasingBy}
 use Rattle.ir_model.specs.Types.{PlainType, type_of}
 use Rattle.ir_model.specs.Plain.{PlainBinding, PlainStruct, struct_of}
 use Rattle.ir_model.specs.Layout.{FieldPlace, Shape, Known, empty, shape, shifted, rounded_up, with_field, field_places, known, cell_at}
-use Rattle.ir_layouts.specs.declared.table.Field.{Field}
-use Rattle.ir_layouts.specs.declared.table.StructLayout.{StructLayout}
+use Rattle.ir_layouts.specs.declared.struct_layout.Field.{Field}
+use Rattle.ir_layouts.specs.declared.struct_layout.StructLayout.{StructLayout}
 use Rattle.ir_layouts.specs.Measures.{struct_shape}
 use Rattle.ir_layouts.specs.Fields.{place_of}
 use Rattle.ir_layouts.specs.Tables.{IsLaid, first_cells}

@@ -8,8 +8,8 @@ use Rattle.ir_model.specs.Plain.{PlainStruct, struct_of}
 use Rattle.ir_model.specs.Layout.{Shape, empty, shape, shape_named, known, cell_at}
 use Rattle.ir_model.proofs.Arrays.{arrays}
 use Rattle.ir_layouts.specs.declared.measure.Measure.{Measure}
-use Rattle.ir_layouts.specs.declared.table.Field.{Field}
-use Rattle.ir_layouts.specs.declared.table.StructLayout.{StructLayout}
+use Rattle.ir_layouts.specs.declared.struct_layout.Field.{Field}
+use Rattle.ir_layouts.specs.declared.struct_layout.StructLayout.{StructLayout}
 use Rattle.ir_layouts.specs.Measures.{IsMeasure, struct_shape}
 use Rattle.ir_layouts.specs.Tables.{IsLaid, IsPlaceBelow}
 use Rattle.ir_cells.specs.Halving.{IsFirstAbove, IsLastWithin}

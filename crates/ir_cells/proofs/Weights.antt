@@ -7,8 +7,8 @@ use Rattle.ir_model.specs.Types.{type_of}
 use Rattle.ir_model.specs.Plain.{PlainBinding, PlainStruct, struct_of}
 use Rattle.ir_model.specs.Layout.{FieldPlace, Shape, Known, empty, with_field, field_places, known}
 use Rattle.ir_model.proofs.Arrays.{arrays}
-use Rattle.ir_layouts.specs.declared.table.Field.{Field}
-use Rattle.ir_layouts.specs.declared.table.StructLayout.{StructLayout}
+use Rattle.ir_layouts.specs.declared.struct_layout.Field.{Field}
+use Rattle.ir_layouts.specs.declared.struct_layout.StructLayout.{StructLayout}
 use Rattle.ir_layouts.specs.Fields.{place_of}
 use Rattle.ir_layouts.specs.Tables.{IsLaid}
 

@@ -2,7 +2,7 @@
 -- Where a search by halving ends among the fields of a struct.
 use Rattle.std.specs.Prelude.{ℕ, ◌+◌, ◌<◌, ◌≤◌, List, length}
 use Rattle.std.proofs.Math.ListN.{get_or}
-use Rattle.ir_layouts.specs.declared.table.Field.{Field}
+use Rattle.ir_layouts.specs.declared.struct_layout.Field.{Field}
 
 -- from this place on each has a greater number
 abbrev pub IsFirstAbove : (Field → ℕ) → List Field → (most place : ℕ) → Type 0

@@ -4,7 +4,7 @@ ghost use Rattle.std.specs.Prelude.{MatchOption};
 ghost use Rattle.std.specs.List.Sorted.{IsNonDecreasingBy};
 ghost use Rattle.ir_cells.specs.Halving.{IsFirstAbove, IsLastWithin};
 
-use ir_layouts::table::Field;
+use ir_layouts::struct_layout::Field;
 
 /// The last field that does not begin behind an offset.
 pub fn last_at(fields: &[Field], at: u32) -> Option<usize>

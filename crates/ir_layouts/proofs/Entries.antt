@@ -5,16 +5,16 @@ use Rattle.std.proofs.lemmas.List.{take-map, length-map, map-append, take-append
 use Rattle.std.proofs.Math.Seq.{take-append_seam, get_or-append_seam}
 use Rattle.std.proofs.lemmas.Bool.{false≢true, cases_lt}
 use Rattle.ir_model.specs.declared.firmware.StructDecl.{StructDecl}
-use Rattle.ir_model.specs.Plain.{PlainBinding, struct_of, names_of}
-use Rattle.ir_model.specs.Layout.{FieldPlace, Shape, Known, known, empty, with_field, field_places, fields_named}
+use Rattle.ir_model.specs.Plain.{struct_of}
+use Rattle.ir_model.specs.Layout.{FieldPlace, known, empty, fields_named}
 use Rattle.ir_model.specs.Rules.{field_type}
 use Rattle.ir_model.specs.Types.{type_of}
-use Rattle.ir_layouts.specs.declared.table.Field.{Field}
+use Rattle.ir_layouts.specs.declared.struct_layout.Field.{Field}
 use Rattle.ir_layouts.specs.Fields.{place_of, place_named}
 use Rattle.base_names.specs.Numbers.{has, number_of}
 use Rattle.ir_model.specs.Resolve.{offset_named}
-use Rattle.ir_layouts.specs.declared.table.StructLayout.{StructLayout}
-use Rattle.ir_layouts.specs.Tables.{IsLaid, AreLaid, IsPlaceBelow, HasFields, declared_by}
+use Rattle.ir_layouts.specs.declared.struct_layout.StructLayout.{StructLayout}
+use Rattle.ir_layouts.specs.Tables.{IsLaid, AreLaid, IsPlaceBelow, declared_by}
 use Rattle.ir_layouts.proofs.Places.{Gives, FirstAt, struct_names, first_at, first_has, there, not_there}
 
 pub slice_mapped : {A B : Type 0} (f : A → B) (xs : List A) (k : ℕ) (d : A) → k < length xs → slice_get (map f xs) k ≡ Some (f (get_or xs k d))
@@ -85,17 +85,13 @@ laid_pop ns ms ls ks js l count a e c f g =
     let h : js ≡ ls = f ∙ (ap (λ x. take x ks) n ∙ (ap (take (length ls)) e ∙ take-append_seam ls (l ∷ []))) in
     subst (λ x. AreLaid x js) (sym g) (subst (AreLaid ns) (sym h) a)
 
-names_of_places : (ks : List Known) (s : Shape) (fs : List PlainBinding) → names_of fs ≡ map (λ (p : FieldPlace). p.name) (field_places ks s fs)
-names_of_places ks s [] = refl
-names_of_places ks s (f ∷ fs) = ap (λ ns. f.name ∷ ns) (names_of_places ks (with_field ks s f.ty) fs)
-
 take_whole : {A : Type 0} (xs : List A) → take (length xs) xs ≡ xs
 take_whole [] = refl
 take_whole (x ∷ xs) = ap (λ ys. x ∷ ys) (take_whole xs)
 
 -- the fields of the struct that a name means
 pub fields_found : (ns : List (List ℕ)) (ls : List StructLayout) (ss : List StructDecl) (n : List ℕ) (k : ℕ) (l : StructLayout) → AreLaid ns ls → declared_by ls ≡ ss
-    → has ns n ≡ true → k ≡ number_of ns n → k < length ns → l ≡ get_or ls k l → HasFields l (fields_named (known (map struct_of ss)) n)
+    → has ns n ≡ true → k ≡ number_of ns n → k < length ns → l ≡ get_or ls k l → fields_named (known (map struct_of ss)) n ≡ map place_of l.fields.items
 fields_found ns ls ss n k l a v h e m g =
     let q = names_same ns ls ss a v in
     let f : FirstAt n ss k = subst (FirstAt n ss) (sym (e ∙ ap (λ ms. number_of ms n) q)) (first_at ss n (ap (λ ms. has ms n) (sym q) ∙ h)) in
@@ -103,10 +99,8 @@ fields_found ns ls ss n k l a v h e m g =
     let d : length ss ≡ length ls = ap length (sym v) ∙ length-map ls (λ (l : StructLayout). l.declaration.now) in
     let laid = entry_laid ns ls ss k l a v (omega (arith, c, d)) (sym g) in
     let same = entry_same ls ss k l v (omega (arith, c, d)) (sym g) in
-    let t = there ss (length ss) n k l.declaration.now f (omega (arith, c)) same in (
-      ap (λ (x : List StructDecl). fields_named (known (map struct_of x)) n) (sym (take_whole ss)) ∙ (t.fields ∙ sym laid.fields),
-      laid.names ∙ (names_of_places (known (map struct_of (take k ss))) empty (struct_of l.declaration.now).fields ∙ ap (map (λ (p : FieldPlace). p.name)) (sym laid.fields)),
-    )
+    let t = there ss (length ss) n k l.declaration.now f (omega (arith, c)) same in
+    ap (λ (x : List StructDecl). fields_named (known (map struct_of x)) n) (sym (take_whole ss)) ∙ (t.fields ∙ sym laid.fields)
 
 pub fields_missing : (ns : List (List ℕ)) (ls : List StructLayout) (ss : List StructDecl) (n : List ℕ) → AreLaid ns ls → declared_by ls ≡ ss → has ns n ≡ false → fields_named (known (map struct_of ss)) n ≡ []
 fields_missing ns ls ss n a v h = ap (λ (x : List StructDecl). fields_named (known (map struct_of x)) n) (sym (take_whole ss)) ∙ (place_missing ns ls ss (length ss) n a v h).fields

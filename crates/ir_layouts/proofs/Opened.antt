@@ -4,12 +4,12 @@ use Rattle.std.proofs.lemmas.List.{map-append, map_more, take-append-drop, take_
 use Rattle.ir_model.specs.declared.extent.TheConstants.{SIZE_LIMIT}
 use Rattle.ir_model.specs.declared.firmware.Binding.{Binding}
 use Rattle.ir_model.specs.Types.{PlainType, type_of}
-use Rattle.ir_model.specs.Plain.{PlainBinding, PlainStruct, binding_of, struct_of}
-use Rattle.ir_model.specs.Layout.{Shape, Known, empty, shape, shifted, rounded_up, with_field, laid_out, field_places, known}
+use Rattle.ir_model.specs.Plain.{PlainBinding, PlainStruct, binding_of, struct_of, names_of}
+use Rattle.ir_model.specs.Layout.{FieldPlace, Shape, Known, empty, shape, shifted, rounded_up, with_field, laid_out, field_places, known}
 use Rattle.ir_model.proofs.Counting.{rounded_at_least}
 use Rattle.ir_layouts.specs.declared.measure.Measure.{Measure}
-use Rattle.ir_layouts.specs.declared.table.Field.{Field}
-use Rattle.ir_layouts.specs.declared.table.StructLayout.{StructLayout}
+use Rattle.ir_layouts.specs.declared.struct_layout.Field.{Field}
+use Rattle.ir_layouts.specs.declared.struct_layout.StructLayout.{StructLayout}
 use Rattle.ir_layouts.specs.Measures.{capped, IsMeasure, IsTooLarge, struct_shape}
 use Rattle.ir_layouts.specs.Fields.{place_of}
 use Rattle.ir_layouts.specs.Tables.{IsLaid, first_cells}
@@ -124,8 +124,17 @@ open_laid ss l size o r b =
       fewer = omega (arith, o.fewer, g, r);
       fields = o.fields;
       firsts = o.firsts;
-      names = o.names;
     }
+
+names_of_places : (ks : List Known) (s : Shape) (fs : List PlainBinding) → names_of fs ≡ map (λ (p : FieldPlace). p.name) (field_places ks s fs)
+names_of_places ks s [] = refl
+names_of_places ks s (f ∷ fs) = ap (λ ns. f.name ∷ ns) (names_of_places ks (with_field ks s f.ty) fs)
+
+-- the names are those of the fields
+pub open_names : (ss : List PlainStruct) (fs : List PlainBinding) (size align cells : ℕ) (fields : List Field) (names : List (List ℕ)) → IsOpen ss fs size align cells fields names
+    → names ≡ map (λ (p : FieldPlace). p.name) (map place_of fields)
+open_names ss fs size align cells fields names o =
+    o.names ∙ (names_of_places (known ss) empty fs ∙ ap (map (λ (p : FieldPlace). p.name)) (sym o.fields))
 
 open_same : (ss : List PlainStruct) (fs gs : List PlainBinding) (size align cells size_next align_next : ℕ) (fields fields_next : List Field) (names names_next : List (List ℕ)) → fs ≡ gs → size ≡ size_next → align ≡ align_next
     → fields ≡ fields_next → names ≡ names_next → IsOpen ss fs size align cells fields names → IsOpen ss gs size_next align_next cells fields_next names_next

@@ -3,7 +3,7 @@
 use Rattle.std.specs.Prelude.{ℕ, List, [], ◌∷◌, Option, Some, None, if◌then◌else◌, bytes_eq}
 use Rattle.ir_model.specs.Types.{type_of}
 use Rattle.ir_model.specs.Layout.{FieldPlace}
-use Rattle.ir_layouts.specs.declared.table.Field.{Field}
+use Rattle.ir_layouts.specs.declared.struct_layout.Field.{Field}
 
 abbrev pub place_of : Field → FieldPlace
 place_of f = record { name = f.name.now; at = f.at; ty = type_of f.ty.now }

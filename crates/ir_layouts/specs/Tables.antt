@@ -5,10 +5,10 @@ use Rattle.std.specs.List.{slice_get}
 use Rattle.std.proofs.Math.ListN.{get_or}
 use Rattle.ir_model.specs.declared.extent.TheConstants.{SIZE_LIMIT}
 use Rattle.ir_model.specs.declared.firmware.StructDecl.{StructDecl}
-use Rattle.ir_model.specs.Plain.{PlainBinding, PlainStruct, struct_of, names_of}
-use Rattle.ir_model.specs.Layout.{FieldPlace, Known, known, shape, shape_named, empty, field_places}
-use Rattle.ir_layouts.specs.declared.table.Field.{Field}
-use Rattle.ir_layouts.specs.declared.table.StructLayout.{StructLayout}
+use Rattle.ir_model.specs.Plain.{PlainBinding, PlainStruct, struct_of}
+use Rattle.ir_model.specs.Layout.{Known, known, shape, shape_named, empty, field_places}
+use Rattle.ir_layouts.specs.declared.struct_layout.Field.{Field}
+use Rattle.ir_layouts.specs.declared.struct_layout.StructLayout.{StructLayout}
 use Rattle.ir_layouts.specs.Measures.{struct_shape, IsTooLarge}
 use Rattle.ir_layouts.specs.Fields.{place_of}
 
@@ -28,7 +28,6 @@ pub record IsLaid (ss : List PlainStruct) (l : StructLayout) : Type 0 where
   pub fewer : l.cells ≤ l.size
   pub fields : map place_of l.fields.items ≡ field_places (known ss) empty (struct_of l.declaration.now).fields
   pub firsts : map (λ (f : Field). f.first_cell) l.fields.items ≡ first_cells (known ss) 0 (struct_of l.declaration.now).fields
-  pub names : l.names ≡ names_of (struct_of l.declaration.now).fields
 
 abbrev pub declared_by : List StructLayout → List StructDecl
 declared_by ls = map (λ (l : StructLayout). l.declaration.now) ls
@@ -43,10 +42,6 @@ pub record IsPlaceBelow (ss : List StructDecl) (below : ℕ) (name : List ℕ) (
   pub earlier : place < below
   pub there : place < length ss
   pub shape : (s : StructDecl) → slice_get ss place ≡ Some s → shape_named (known (map struct_of (take below ss))) name ≡ struct_shape (map struct_of (take place ss)) (struct_of s)
-
--- a struct with these fields
-abbrev pub HasFields : StructLayout → List FieldPlace → Type 0
-HasFields l ps = (ps ≡ map place_of l.fields.items) × (l.names ≡ map (λ (p : FieldPlace). p.name) (map place_of l.fields.items))
 
 -- some struct behind others passes the limit
 abbrev pub HasTooLarge : (earlier structs : List PlainStruct) → Type 0

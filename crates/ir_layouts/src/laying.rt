@@ -8,7 +8,8 @@ ghost use Rattle.ir_layouts.specs.Tables.{IsLaid};
 ghost use Rattle.ir_layouts.specs.Laying.{IsOpen};
 
 use crate::fault::LayoutFault;
-use crate::table::{Field, Layouts, StructLayout};
+use crate::struct_layout::{Field, StructLayout};
+use crate::table::Layouts;
 use ir_model::extent::SIZE_LIMIT;
 use ir_model::firmware::StructDecl;
 use ir_names::Names;

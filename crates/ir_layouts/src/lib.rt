@@ -4,5 +4,6 @@
 pub mod fault;
 mod laying;
 pub mod measure;
+pub mod struct_layout;
 pub mod table;
 mod types;

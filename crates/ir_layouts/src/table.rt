@@ -3,64 +3,23 @@
 ghost use Rattle.std.specs.Prelude.{◌≡◌, ◌+◌, ◌<◌, ◌≤◌, [], ◌∷◌, ◌++◌, ◌-◌, map, length, take, IfOk, OnOk, OnErr, MatchOption, option_map, Some, None};
 ghost use Rattle.ir_model.specs.Types.{type_of};
 ghost use Rattle.ir_model.specs.Plain.{struct_of};
-ghost use Rattle.ir_model.specs.Layout.{FieldPlace, known, shape, fields_named};
+ghost use Rattle.ir_model.specs.Layout.{known, shape, fields_named};
 ghost use Rattle.ir_model.specs.Resolve.{offset_named};
 ghost use Rattle.ir_model.specs.Rules.{field_type};
 ghost use Rattle.ir_layouts.specs.Measures.{IsMeasure, IsTooLarge, struct_shape};
 ghost use Rattle.ir_model.specs.declared.extent.TheConstants.{SIZE_LIMIT};
 ghost use Rattle.ir_layouts.specs.Fields.{place_of, place_named};
-ghost use Rattle.ir_layouts.specs.Tables.{HasTooLarge, HasFields, IsLaid};
+ghost use Rattle.ir_layouts.specs.Tables.{HasTooLarge, IsLaid};
 
 use crate::fault::LayoutFault;
 use crate::measure::Measure;
+use crate::struct_layout::{Field, StructLayout};
 use base_names::Name;
 use ir_model::firmware::StructDecl;
 use ir_model::types::Ty;
 use ir_names::Names;
 use std::alloc::{AllocError, Global};
 use std::marker::Model;
-
-/// A field of a struct that is laid out.
-#[derive(Clone, Copy)]
-pub struct Field<'a> {
-    /// Its name.
-    pub name: &'a Name,
-    /// Its type.
-    pub ty: &'a Ty,
-    /// How many bytes it lies behind the struct's first.
-    pub at: u32,
-    /// How many cells of the struct lie before its first.
-    pub first_cell: u32,
-}
-
-/// A struct that is laid out.
-pub struct StructLayout<'a> {
-    /// Its declaration.
-    pub declaration: &'a StructDecl,
-    /// The size in bytes.
-    pub size: u32,
-    /// The alignment in bytes: 1, 2 or 4.
-    pub align: u32,
-    /// How many cells it has.
-    pub cells: u32,
-    /// Its fields in order.
-    pub fields: Vec<Field<'a>>,
-    /// The names of its fields in order.
-    pub names: Names<'a>,
-}
-
-impl Drop for StructLayout<'_> {
-    fn drop(self) {
-        let StructLayout {
-            declaration: _,
-            size: _,
-            align: _,
-            cells: _,
-            fields: _,
-            names: _,
-        } = self;
-    }
-}
 
 /// The layouts of structs, seen as the list of these structs. Each is laid out by the earlier ones. Of several structs with
 /// one name the name means the first, and an absent struct has no bytes.
@@ -95,7 +54,6 @@ impl<'a> Model for Layouts<'a> {
 }
 
 fn field_in<'a>(layout: &StructLayout<'a>, field: &Name) -> Option<Field<'a>>
-    requires { layout.now.names ≡ map (λ (f : FieldPlace). f.name) (map place_of layout.now.fields.items) }
     ensures { option_map place_of result ≡ place_named (map place_of layout.now.fields.items) field.now }
 {
     match layout.names.number(field) {
@@ -228,7 +186,7 @@ impl<'a> Layouts<'a> {
     }
 
     fn layout_named(&self, of: &Name) -> Option<&StructLayout<'a>>
-        ensures { MatchOption result (fields_named (known (map struct_of self.now)) of.now ≡ []) (λ l. HasFields l.now (fields_named (known (map struct_of self.now)) of.now)) }
+        ensures { MatchOption result (fields_named (known (map struct_of self.now)) of.now ≡ []) (λ l. fields_named (known (map struct_of self.now)) of.now ≡ map place_of l.now.fields.items) }
     {
         match self.names.number(of) {
             None => None,

@@ -9,7 +9,8 @@ ghost use Rattle.ir_layouts.specs.Measures.{IsMeasure};
 ghost use Rattle.ir_layouts.specs.Tables.{IsLaid, IsPlaceBelow};
 
 use crate::measure::{Measure, many, nothing, one_cell};
-use crate::table::{Layouts, StructLayout};
+use crate::struct_layout::StructLayout;
+use crate::table::Layouts;
 use base_names::Name;
 use ir_model::types::Ty;
 

@@ -1,6 +1,6 @@
 use Rattle.std.proofs.Common.{leb, subst, rules}
 use Rattle.std.proofs.lemmas.List.Sorted.{IsPartitionPoint-from_clause, IsPartitionedBy-leb}
-use Rattle.ir_layouts.specs.declared.table.Field.{Field}
+use Rattle.ir_layouts.specs.declared.struct_layout.Field.{Field}
 use Rattle.ir_cells.specs.Halving.{IsFirstAbove}
 use Rattle.ir_cells.proofs.Lasts.{Splits, split_above, split_last}
 use Rattle.ir_cells.proofs.halving.last_at.Goals as goal

@@ -2,7 +2,7 @@ use Rattle.std.proofs.Common.{◌≡◌, ap, sym, subst, map, take, ◌∙◌, a
 use Rattle.std.specs.List.Sorted.{IsNonDecreasingBy}
 use Rattle.ir_model.specs.Types.{Array, type_of}
 use Rattle.ir_model.specs.Plain.{struct_of}
-use Rattle.ir_layouts.specs.declared.table.Field.{Field}
+use Rattle.ir_layouts.specs.declared.struct_layout.Field.{Field}
 use Rattle.ir_cells.specs.Halving.{IsFirstAbove, IsLastWithin}
 use Rattle.ir_cells.proofs.Structs.{offsets_rise}
 use Rattle.ir_cells.proofs.Walks.{at_offset, walk_nowhere, walk_past, walk_element, walk_missing, walk_before, walk_field, walk_falls, walk_fits}

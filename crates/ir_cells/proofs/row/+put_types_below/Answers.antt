@@ -2,7 +2,7 @@ use Rattle.std.proofs.Common.{◌≡◌, ap, sym, map, take, drop, ◌∙◌, ar
 use Rattle.ir_model.specs.Types.{Array, type_of}
 use Rattle.ir_model.specs.Plain.{struct_of}
 use Rattle.ir_model.proofs.Arrays.{arrays}
-use Rattle.ir_layouts.specs.declared.table.Field.{Field}
+use Rattle.ir_layouts.specs.declared.struct_layout.Field.{Field}
 use Rattle.ir_cells.specs.Cells.{lent_types}
 use Rattle.ir_cells.proofs.Walks.{walk_falls}
 use Rattle.ir_cells.proofs.Rows.{repeated, row_of, fields_row, at_most, row_start, row_more, row_full, row_array, row_no_cells, row_step, row_rest, row_struct, row_fields, fields_rest, field_step}

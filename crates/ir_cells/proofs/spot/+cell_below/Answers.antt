@@ -4,7 +4,7 @@ use Rattle.std.specs.List.Sorted.{IsNonDecreasingBy}
 use Rattle.ir_model.specs.Types.{Array, type_of}
 use Rattle.ir_model.specs.Plain.{struct_of}
 use Rattle.ir_model.specs.Layout.{known, shape}
-use Rattle.ir_layouts.specs.declared.table.Field.{Field}
+use Rattle.ir_layouts.specs.declared.struct_layout.Field.{Field}
 use Rattle.ir_cells.specs.Halving.{IsFirstAbove, IsLastWithin}
 use Rattle.ir_cells.proofs.Walks.{walk_falls}
 use Rattle.ir_cells.proofs.Numbered.{IsNth, nth_no_cells, nth_behind, nth_element, firsts_rise, nth_before, nth_field, nth_field_none, field_within, field_cell_fits}

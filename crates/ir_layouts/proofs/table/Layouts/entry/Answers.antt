@@ -1,6 +1,6 @@
 use Rattle.std.proofs.Common.{sym, ap, length, arith, ◌≡◌, ◌∙◌}
 use Rattle.std.proofs.lemmas.List.{length-map}
-use Rattle.ir_layouts.specs.declared.table.StructLayout.{StructLayout}
+use Rattle.ir_layouts.specs.declared.struct_layout.StructLayout.{StructLayout}
 use Rattle.ir_layouts.proofs.Entries.{entry_laid, entry_same}
 use Rattle.ir_layouts.proofs.table.Layouts.entry.Goals as goal
 
