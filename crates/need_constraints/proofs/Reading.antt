@@ -1,6 +1,7 @@
 -- What is read of a program.
 use Rattle.std.proofs.Common.{◌≡◌, ℕ, zero, suc, ◌<◌, ◌≤◌, Bool, true, false, List, [], ◌∷◌, ◌++◌, length, get_or, map, take, refl, sym, ap, ◌∙◌, subst, arith, drop, ◌⊎◌, inl, inr, if◌then◌else◌}
 use Rattle.std.specs.Prelude.{Contains, Vec}
+use Rattle.need_sets.specs.Numbers.{GroupCounts}
 use Rattle.need_sets.specs.declared.rules.Trigger.{Trigger}
 use Rattle.std.specs.List.{flat_map}
 use Rattle.std.proofs.lemmas.List.{get_or-map, length-map, map-append}
@@ -16,7 +17,6 @@ use Rattle.ir_program.specs.declared.value.Value as values
 use Rattle.ir_program.specs.Seen.{program_of, known_of, routine_of, sequence_of, variable_of, cell_count, HasCounts}
 use Rattle.ir_program.specs.Storages.{shape_of}
 use Rattle.ir_program.specs.Values.{value_of}
-use Rattle.need_sets.specs.declared.numbering.Numbering.{Numbering}
 use Rattle.need_sets.specs.declared.rules.Rules.{Rules}
 use Rattle.need_sets.specs.Rules.{lists_in}
 use Rattle.need_sets.specs.Demands.{Demand, value_demands, block_demands, func_demands, global_demands}
@@ -77,7 +77,7 @@ values_read q s g v vs n h e i l f a b d =
     both c m k (inr x) = inr (omega arith)
 
 -- rules that ask nothing
-pub represents_none : (c : Numbering) (r : Rules) → r.facts.items ≡ [] → r.copies.items ≡ [] → ((n : ℕ) → get_or (lists_in r.triggers) n [] ≡ []) → Represents c r []
+pub represents_none : (c : GroupCounts) (r : Rules) → r.facts.items ≡ [] → r.copies.items ≡ [] → ((n : ℕ) → get_or (lists_in r.triggers) n [] ≡ []) → Represents c r []
 represents_none c r f e t = record {
   all = λ d h. absurd (in_none d h);
   each = each;

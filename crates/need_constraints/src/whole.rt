@@ -4,9 +4,9 @@ ghost use Rattle.std.specs.Prelude.{◌≡◌, ◌<◌, ◌≤◌, [], length, m
 ghost use Rattle.std.specs.List.{flat_map};
 ghost use Rattle.ir_program.specs.Seen.{program_of, known_of, sequence_of, operation_of, HasCounts};
 ghost use Rattle.ir_program.specs.Values.{value_of};
-ghost use Rattle.need_sets.specs.declared.numbering.Numbering as numberings;
 ghost use Rattle.plan_model.specs.Lists.{numbers_below};
 ghost use Rattle.need_sets.specs.Demands.{inst_demands, block_demands, func_demands, global_demands, value_demands, demands_of};
+ghost use Rattle.need_sets.specs.Numbers.{GroupCounts};
 ghost use Rattle.need_sets.specs.Gathered.{Gathers, Represents};
 
 use crate::generator::Generator;
@@ -19,7 +19,7 @@ use std::alloc::{AllocError, Global};
 
 /// Rules that ask nothing, of a number of nodes.
 fn no_rules<'a>(alloc: Global, nodes: u32) -> Result<Rules<'a>, AllocError>
-    ensures { IfOk result (λ rules. (c : numberings.Numbering) → Represents c rules []) }
+    ensures { IfOk result (λ rules. (c : GroupCounts) → Represents c rules []) }
 {
     let mut triggers = Vec::new(alloc);
     for _ in 0..nodes {
@@ -162,7 +162,7 @@ impl<'a> Generator<'a> {
         requires { HasCounts self.now.program.now }
         ensures { IfOk result (λ rules. Represents self.now.numbering rules (demands_of (program_of self.now.program.now))) }
     {
-        let mut rules = no_rules(alloc, self.numbering.nodes.total())?;
+        let mut rules = no_rules(alloc, self.numbering.node_count())?;
         self.put_program(&mut rules)?;
         Ok(rules)
     }

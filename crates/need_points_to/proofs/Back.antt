@@ -8,9 +8,8 @@ use Rattle.ir_model.specs.Types.{U32}
 use Rattle.ir_model.specs.Resolved.{Program, NumberedFunc, no_func, func_at, register_type}
 use Rattle.ir_model.specs.State.{Object, GlobalObject, PeriphObject, LocalObject, FunctionObject}
 use Rattle.ir_laws.specs.Sets.{Node, Register, Content, Outcome, carries}
-use Rattle.need_sets.specs.declared.numbering.Numbering.{Numbering}
 use Rattle.need_numbers.specs.Groups.{place_of, start_of}
-use Rattle.need_sets.specs.Numbers.{object_number, node_number, content_number, object_groups, node_groups, numbering_of}
+use Rattle.need_sets.specs.Numbers.{GroupCounts, object_number, node_number, content_number, object_groups, node_groups, numbering_of}
 use Rattle.need_numbers.proofs.GroupPlaces.{some_is, none_is, place_at}
 use Rattle.need_sets.specs.Rules.{callee_of}
 use Rattle.base_laws.proofs.Options.{guarded}
@@ -52,22 +51,22 @@ object_in n zero i = GlobalObject i
 object_in n (suc zero) i = PeriphObject i
 object_in n (suc (suc f)) i = if nat_lt f n then LocalObject f i else FunctionObject i
 
-abbrev pub object_from : Numbering → ℕ → Object
+abbrev pub object_from : GroupCounts → ℕ → Object
 object_from c k = object_in c.funcs (spot_at c.objects k).group (spot_at c.objects k).item
 
-abbrev pub node_in : Numbering → (group item : ℕ) → Node
+abbrev pub node_in : GroupCounts → (group item : ℕ) → Node
 node_in c g i = if nat_lt g c.funcs then Register g i else (if nat_eq g c.funcs then Content (object_from c i) else Outcome i)
 
-abbrev pub node_from : Numbering → ℕ → Node
+abbrev pub node_from : GroupCounts → ℕ → Node
 node_from c k = node_in c (spot_at c.nodes k).group (spot_at c.nodes k).item
 
-object_spot : (c : Numbering) (g i k : ℕ) → place_of c.objects g i ≡ Some k → object_from c k ≡ object_in c.funcs g i
+object_spot : (c : GroupCounts) (g i k : ℕ) → place_of c.objects g i ≡ Some k → object_from c k ≡ object_in c.funcs g i
 object_spot c g i k e = ap (λ (x : GroupPlace). object_in c.funcs x.group x.item) (spot_is c.objects g i k e)
 
-node_spot : (c : Numbering) (g i k : ℕ) → place_of c.nodes g i ≡ Some k → node_from c k ≡ node_in c g i
+node_spot : (c : GroupCounts) (g i k : ℕ) → place_of c.nodes g i ≡ Some k → node_from c k ≡ node_in c g i
 node_spot c g i k e = ap (λ (x : GroupPlace). node_in c x.group x.item) (spot_is c.nodes g i k e)
 
-pub object_back : (c : Numbering) (o : Object) (k : ℕ) → object_number c o ≡ Some k → object_from c k ≡ o
+pub object_back : (c : GroupCounts) (o : Object) (k : ℕ) → object_number c o ≡ Some k → object_from c k ≡ o
 object_back c (GlobalObject g) k e = object_spot c 0 g k e
 object_back c (PeriphObject g) k e = object_spot c 1 g k e
 object_back c (LocalObject f l) k e =
@@ -79,18 +78,18 @@ object_back c (FunctionObject f) k e =
     object_spot c (2 + c.funcs) f k e ∙ (ap (λ (g : ℕ). object_in c.funcs g f) s ∙ test_false (nat_lt c.funcs c.funcs) (LocalObject c.funcs f) (FunctionObject f) (le-ltb c.funcs c.funcs (omega arith)))
 
 -- the content of an object by the object's number
-pub content_back : (c : Numbering) (o k : ℕ) → place_of c.nodes c.funcs o ≡ Some k → node_from c k ≡ Content (object_from c o)
+pub content_back : (c : GroupCounts) (o k : ℕ) → place_of c.nodes c.funcs o ≡ Some k → node_from c k ≡ Content (object_from c o)
 content_back c o k e =
     node_spot c c.funcs o k e
     ∙ (test_false (nat_lt c.funcs c.funcs) (Register c.funcs o) (if nat_eq c.funcs c.funcs then Content (object_from c o) else Outcome o) (le-ltb c.funcs c.funcs (omega arith))
     ∙ test_true (nat_eq c.funcs c.funcs) (Content (object_from c o)) (Outcome o) (eq-eqb c.funcs c.funcs refl))
 
 -- a number of a content is by the number of an object
-content_at : (c : Numbering) (r : Option ℕ) (k : ℕ) → content_number c r ≡ Some k → (j : ℕ) × (r ≡ Some j) × (place_of c.nodes c.funcs j ≡ Some k)
+content_at : (c : GroupCounts) (r : Option ℕ) (k : ℕ) → content_number c r ≡ Some k → (j : ℕ) × (r ≡ Some j) × (place_of c.nodes c.funcs j ≡ Some k)
 content_at c None k e = absurd (none_is None k refl e)
 content_at c (Some j) k e = (j, refl, e)
 
-pub node_back : (c : Numbering) (n : Node) (k : ℕ) → node_number c n ≡ Some k → node_from c k ≡ n
+pub node_back : (c : GroupCounts) (n : Node) (k : ℕ) → node_number c n ≡ Some k → node_from c k ≡ n
 node_back c (Register f r) k e =
     let h = guarded (nat_lt f c.funcs) (place_of c.nodes f r) k e in
     node_spot c f r k h.1 ∙ test_true (nat_lt f c.funcs) (Register f r) (if nat_eq f c.funcs then Content (object_from c r) else Outcome r) h.0
@@ -129,7 +128,7 @@ place_there cs g i l = test_true (nat_lt i (get_or cs g 0)) (Some (start_of cs g
 place_within : (cs : List ℕ) (g i k : ℕ) → place_of cs g i ≡ Some k → k < sum cs
 place_within cs g i k e = let h = place_at cs g i k e in let b = sum_more cs g i h.0 in let q = h.1 in omega arith
 
-object_within : (c : Numbering) (o : Object) (k : ℕ) → object_number c o ≡ Some k → k < sum c.objects
+object_within : (c : GroupCounts) (o : Object) (k : ℕ) → object_number c o ≡ Some k → k < sum c.objects
 object_within c (GlobalObject g) k e = place_within c.objects 0 g k e
 object_within c (PeriphObject g) k e = place_within c.objects 1 g k e
 object_within c (LocalObject f l) k e = place_within c.objects (2 + f) l k (guarded (nat_lt f c.funcs) (place_of c.objects (2 + f) l) k e).1

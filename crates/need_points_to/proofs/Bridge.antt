@@ -10,9 +10,8 @@ use Rattle.ir_model.specs.Resolved.{Program, register_type}
 use Rattle.ir_model.specs.State.{Object, FunctionObject}
 use Rattle.ir_model.specs.Signatures.{signature}
 use Rattle.ir_laws.specs.Sets.{Node, Register, Content, Outcome, ObjectSets, IsWithin, carries}
-use Rattle.need_sets.specs.declared.numbering.Numbering.{Numbering}
 use Rattle.need_numbers.specs.Groups.{place_of}
-use Rattle.need_sets.specs.Numbers.{object_number, node_number, content_number, numbering_of}
+use Rattle.need_sets.specs.Numbers.{GroupCounts, object_number, node_number, content_number, numbering_of}
 use Rattle.need_numbers.specs.Rows.{Lists}
 use Rattle.need_sets.specs.Pairs.{is_pair, sets_by}
 use Rattle.need_numbers.proofs.GroupPlaces.{some_is, none_is}
@@ -33,7 +32,7 @@ ItemObeyed p Q (Copy e) = Passes Q e
 ItemObeyed p Q (Asks n t) = (o : ℕ) → Q n o ≡ true → OnEdge (edge_of p (numbering_of p) t o) (Passes Q)
 
 module _ (p : Program) where
-  abbrev pub c : Numbering
+  abbrev pub c : GroupCounts
   c = numbering_of p
 
   -- ---- sets as numbers say

@@ -9,9 +9,8 @@ use Rattle.ir_model.specs.State.{Object, FunctionObject}
 use Rattle.ir_model.specs.Signatures.{signature}
 use Rattle.ir_program.specs.Seen.{program_of}
 use Rattle.ir_laws.specs.Sets.{Node, Register, Content, Outcome, ObjectSets, carries}
-use Rattle.need_sets.specs.declared.numbering.Numbering.{Numbering}
 use Rattle.need_numbers.specs.Groups.{place_of}
-use Rattle.need_sets.specs.Numbers.{object_number, node_number, content_number, numbering_of}
+use Rattle.need_sets.specs.Numbers.{GroupCounts, object_number, node_number, content_number, numbering_of}
 use Rattle.need_numbers.specs.Rows.{Lists}
 use Rattle.need_sets.specs.Pairs.{is_pair, sets_by}
 use Rattle.need_numbers.proofs.GroupPlaces.{some_is, none_is}
@@ -57,7 +56,7 @@ of_made None h k e = absurd (none_is None k refl e)
 of_made (Some g) h k e = (g, refl, e)
 
 module _ (p : Program) where
-  abbrev c : Numbering
+  abbrev c : GroupCounts
   c = numbering_of p
 
   -- the objects of pairs are those of the program
@@ -189,4 +188,4 @@ module _ (p : Program) where
           let m = r.each (Asks t.node t.by) t.listed in
           trigger_edge rows (record { from = a; to = b }) m.demand t.node t.object t.by real n.apart m.listed m.is t.has
           (subst (λ (x : Program). edge_of x c t.by t.object ≡ Some (record { from = a; to = b })) e
-          (subst (λ (y : Numbering). edge_of (program_of w.program.now) y t.by t.object ≡ Some (record { from = a; to = b })) f t.asks))
+          (subst (λ (y : GroupCounts). edge_of (program_of w.program.now) y t.by t.object ≡ Some (record { from = a; to = b })) f t.asks))

@@ -7,8 +7,7 @@ use Rattle.ir_model.specs.State.{Object}
 use Rattle.ir_program.specs.Seen.{program_of}
 use Rattle.ir_laws.specs.Sets.{Node, ObjectSets}
 use Rattle.plan_model.specs.PointsTo.{IsLeast}
-use Rattle.need_sets.specs.declared.numbering.Numbering.{Numbering}
-use Rattle.need_sets.specs.Numbers.{object_number, node_number, numbering_of}
+use Rattle.need_sets.specs.Numbers.{GroupCounts, object_number, node_number, numbering_of}
 use Rattle.need_numbers.specs.Rows.{Lists}
 use Rattle.need_sets.specs.Pairs.{is_pair, sets_by}
 use Rattle.need_sets.specs.declared.system.System.{System}
@@ -37,11 +36,11 @@ pair_of rows (Some i) (Some j) e = record { node = i; object = j; node_is = refl
 obeys_by : (w : System) (p : Program) (Q : Relation) → program_of w.program.now ≡ p → w.numbering ≡ numbering_of p → ObeysAll w Q → Obeys p (numbering_of p) w.rules.facts.items w.rules.copies.items (lists_in w.rules.triggers) Q
 obeys_by w p Q e f h =
     subst (λ (x : Program). Obeys x (numbering_of p) w.rules.facts.items w.rules.copies.items (lists_in w.rules.triggers) Q) e
-    (subst (λ (c : Numbering). Obeys (program_of w.program.now) c w.rules.facts.items w.rules.copies.items (lists_in w.rules.triggers) Q) f h)
+    (subst (λ (c : GroupCounts). Obeys (program_of w.program.now) c w.rules.facts.items w.rules.copies.items (lists_in w.rules.triggers) Q) f h)
 
 pub by_obeys : (w : System) (p : Program) (Q : Relation) → program_of w.program.now ≡ p → w.numbering ≡ numbering_of p → Obeys p (numbering_of p) w.rules.facts.items w.rules.copies.items (lists_in w.rules.triggers) Q → ObeysAll w Q
 by_obeys w p Q e f h =
-    subst (λ (c : Numbering). Obeys (program_of w.program.now) c w.rules.facts.items w.rules.copies.items (lists_in w.rules.triggers) Q) (sym f)
+    subst (λ (c : GroupCounts). Obeys (program_of w.program.now) c w.rules.facts.items w.rules.copies.items (lists_in w.rules.triggers) Q) (sym f)
     (subst (λ (x : Program). Obeys x (numbering_of p) w.rules.facts.items w.rules.copies.items (lists_in w.rules.triggers) Q) (sym e) h)
 
 pub least_found : (w : System) (p : Program) (rows : Lists) → program_of w.program.now ≡ p → w.numbering ≡ numbering_of p → Represents (numbering_of p) w.rules (demands_of p) → ObeysAll w (is_in rows)

@@ -15,8 +15,7 @@ use Rattle.ir_model.specs.Objects.{object_by}
 use Rattle.ir_model.specs.Resolved.{Program}
 use Rattle.ir_model.specs.State.{Object}
 use Rattle.ir_laws.specs.Sets.{Node}
-use Rattle.need_sets.specs.declared.numbering.Numbering.{Numbering}
-use Rattle.need_sets.specs.Numbers.{object_number, node_number, numbering_of}
+use Rattle.need_sets.specs.Numbers.{GroupCounts, object_number, node_number, numbering_of}
 use Rattle.need_numbers.specs.Rows.{Lists, row}
 use Rattle.need_sets.specs.Sets.{Sets, same_object, sets_of, row_of}
 use Rattle.need_sets.specs.Pairs.{sets_by}
@@ -64,7 +63,7 @@ abbrev number_or_none : Option ℕ → ℕ
 number_or_none None = 0
 number_or_none (Some k) = k
 
-module _ (c : Numbering) where
+module _ (c : GroupCounts) where
   -- the numbers of the nodes to which edges lead from the node of a number
   abbrev targets : ℕ → List (Node × Node) → List ℕ
   targets a [] = []
@@ -118,7 +117,7 @@ module _ (c : Numbering) where
 -- ---- the sizes of sets
 
 module _ (p : Program) (s : Sets) (rows : Lists) (same : (n : Node) (o : Object) → sets_of s n o ≡ sets_by (numbering_of p) rows n o) (real : AreReal p rows) where
-  abbrev cn : Numbering
+  abbrev cn : GroupCounts
   cn = numbering_of p
 
   abbrev number_of : ObjId → ℕ

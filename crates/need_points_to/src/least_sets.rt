@@ -33,8 +33,8 @@ fn search<L: Ledger>(
 {
     let numbering = number_program(alloc, program)?;
     let system = generate(alloc, program, numbering)?;
-    let nodes = system.numbering.nodes.total();
-    let objects = system.numbering.objects.total();
+    let nodes = system.numbering.node_count();
+    let objects = system.numbering.object_count();
     least_pairs(&system, alloc, nodes, objects, steps)
 }
 

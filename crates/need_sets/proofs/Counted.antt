@@ -1,11 +1,11 @@
 -- What the groups of a program have.
-use Rattle.std.proofs.Common.{◌≡◌, ℕ, ◌≤◌, List, [], ◌∷◌, ◌++◌, length, map, take, refl, ap, append_assoc}
+use Rattle.std.proofs.Common.{◌≡◌, ℕ, ◌+◌, ◌≤◌, List, [], ◌∷◌, ◌++◌, length, map, take, refl, ap, append_assoc, length-append, arith}
 use Rattle.std.proofs.lemmas.List.{length-map, take_all}
 use Rattle.std.specs.Borrow.{Bor}
 use Rattle.ir_model.specs.declared.types.Ty as types
 use Rattle.ir_model.specs.Types.{type_of}
 use Rattle.ir_model.specs.Layout.{Known}
-use Rattle.ir_model.specs.Resolved.{NumberedFunc}
+use Rattle.ir_model.specs.Resolved.{Program, NumberedFunc}
 use Rattle.ir_program.specs.declared.program.Program as programs
 use Rattle.ir_program.specs.declared.program.Routine.{Routine}
 use Rattle.ir_program.specs.Seen.{program_of, routine_of, variable_of, span_of, known_of}
@@ -34,3 +34,11 @@ node_groups_are p g g0 g1 o n i e e1 f l h =
     let m = registers_are (known_of p) p.funcs in
     let t = ap (map (λ (r : Routine). length r.registers)) (take_all i p.funcs l) in
     let q = append_assoc g0 (o ∷ []) (n ∷ []) in cc
+
+-- the groups of objects are those of globals and of peripherals, one of each function's locals, and that of functions
+pub object_group_count : (p : Program) (groups : List ℕ) (funcs : ℕ) → groups ≡ object_groups p → funcs ≡ length p.funcs → length groups ≡ 3 + funcs
+object_group_count p groups funcs e f =
+    let a = length-append (map (λ (f : NumberedFunc). length f.locals) p.funcs) (length p.funcs ∷ []) in
+    let b = length-map p.funcs (λ (f : NumberedFunc). length f.locals) in
+    let d : length groups ≡ length (object_groups p) = ap length e in
+    omega (arith, a, b, d, f)

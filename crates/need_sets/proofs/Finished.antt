@@ -9,8 +9,7 @@ use Rattle.ir_model.specs.declared.object.ObjId.{ObjId}
 use Rattle.ir_model.specs.Objects.{object_by, compare_objects}
 use Rattle.ir_model.specs.State.{Object}
 use Rattle.plan_model.specs.Lists.{ListsExactly}
-use Rattle.need_sets.specs.declared.numbering.Numbering.{Numbering}
-use Rattle.need_sets.specs.Numbers.{node_number, object_number, AreByNumber}
+use Rattle.need_sets.specs.Numbers.{GroupCounts, node_number, object_number, AreByNumber}
 use Rattle.need_numbers.specs.Rows.{Lists, row}
 use Rattle.need_sets.specs.Sets.{Sets, AreInOrder, same_object, row_at, sets_of}
 use Rattle.need_sets.specs.Pairs.{IsWithin, has_number, is_pair, sets_by, object_at}
@@ -44,7 +43,7 @@ in_order by_number lists node rows d = λ n. at n (cases_lt n node)
     at n (inl h) = (d.each n h).rising
     at n (inr h) = subst (IsStrictlySortedBy compare_objects) (sym (past rows n (let b = d.count in omega arith))) tt
 
-listed : (c : Numbering) (by_number : List ObjId) (lists : Lists) (rows : List (List ObjId)) → AreByNumber c by_number → IsWithin (length by_number) lists → AreDone by_number lists (length lists) rows → (n : ℕ) (o : Object) → list_any (λ x. same_object (object_by x) o) (get_or rows n []) ≡ has_number (row lists n) (object_number c o)
+listed : (c : GroupCounts) (by_number : List ObjId) (lists : Lists) (rows : List (List ObjId)) → AreByNumber c by_number → IsWithin (length by_number) lists → AreDone by_number lists (length lists) rows → (n : ℕ) (o : Object) → list_any (λ x. same_object (object_by x) o) (get_or rows n []) ≡ has_number (row lists n) (object_number c o)
 listed c by_number lists rows t w d n o = at (cases_lt n (length lists))
   where
     at : (n < length lists) ⊎ (length lists ≤ n) → list_any (λ x. same_object (object_by x) o) (get_or rows n []) ≡ has_number (row lists n) (object_number c o)
@@ -71,8 +70,8 @@ one_pushed by_number t lists js node rows new xs a b e d h =
     subst (AreDone by_number lists (node + 1)) (sym e)
     (one_more by_number lists node rows xs d (subst (λ (s : List ObjId). ListsExactly compare_objects (Contains (map (object_at s) (row lists node))) xs) a (subst (λ (k : List ℕ). ListsExactly compare_objects (Contains (map (object_at t) k)) xs) b h)))
 
-pub sets_are : (c d : Numbering) (by_number : List ObjId) (lists : Lists) (rows : List (List ObjId)) (node : ℕ) → c ≡ d → AreByNumber c by_number → length by_number ≡ sum c.objects → IsWithin (sum d.objects) lists → AreDone by_number lists node rows → node ≡ length lists
+pub sets_are : (c d : GroupCounts) (by_number : List ObjId) (lists : Lists) (rows : List (List ObjId)) (node : ℕ) → c ≡ d → AreByNumber c by_number → length by_number ≡ sum c.objects → IsWithin (sum d.objects) lists → AreDone by_number lists node rows → node ≡ length lists
     → (n : Node) (o : Object) → sets_of (record { numbers = c; rows = rows }) n o ≡ sets_by d lists n o
 sets_are c d by_number lists rows node e t l w a m n o =
-    same_sets (record { numbers = c; rows = rows }) by_number lists t (subst (λ (k : ℕ). IsWithin k lists) (sym (l ∙ ap (λ (x : Numbering). sum x.objects) e)) w) (subst (λ (k : ℕ). AreDone by_number lists k rows) m a) n o
-    ∙ ap (λ (x : Numbering). sets_by x lists n o) e
+    same_sets (record { numbers = c; rows = rows }) by_number lists t (subst (λ (k : ℕ). IsWithin k lists) (sym (l ∙ ap (λ (x : GroupCounts). sum x.objects) e)) w) (subst (λ (k : ℕ). AreDone by_number lists k rows) m a) n o
+    ∙ ap (λ (x : GroupCounts). sets_by x lists n o) e

@@ -8,8 +8,7 @@ use Rattle.ir_model.specs.Objects.{object_by, compare_objects}
 use Rattle.ir_model.specs.State.{Object, GlobalObject, PeriphObject, LocalObject, FunctionObject}
 use Rattle.plan_model.specs.Lists.{ListsExactly}
 use Rattle.ir_laws.specs.Sets.{Node}
-use Rattle.need_sets.specs.declared.numbering.Numbering.{Numbering}
-use Rattle.need_sets.specs.Numbers.{node_number}
+use Rattle.need_sets.specs.Numbers.{GroupCounts, node_number}
 use Rattle.need_sets.specs.Sets.{Sets, same_object, row_at, row_of, sets_of}
 use Rattle.ir_laws.proofs.Objects.{same_id as object_by_is}
 
@@ -68,9 +67,9 @@ exactly xs s = record { rising = s; each = λ x h. at_among xs x h.0 h.1 h.2; al
 pub row_exactly : (s : Sets) (n : Node) (xs : List ObjId) → xs ≡ row_of s n → IsStrictlySortedBy compare_objects xs → ListsExactly compare_objects (λ o. sets_of s n (object_by o) ≡ true) xs
 row_exactly s n xs e h = subst (λ ys. ListsExactly compare_objects (λ o. list_any (λ x. same_object (object_by x) (object_by o)) ys ≡ true) xs) e (exactly xs h)
 
-pub of_some : (s : Sets) (c : Numbering) (n : Node) (r : Option ℕ) (k : ℕ) (xs : List ObjId) → c ≡ s.numbers → r ≡ node_number c n → r ≡ Some k → xs ≡ get_or s.rows k [] → IsStrictlySortedBy compare_objects xs → ListsExactly compare_objects (λ o. sets_of s n (object_by o) ≡ true) xs
+pub of_some : (s : Sets) (c : GroupCounts) (n : Node) (r : Option ℕ) (k : ℕ) (xs : List ObjId) → c ≡ s.numbers → r ≡ node_number c n → r ≡ Some k → xs ≡ get_or s.rows k [] → IsStrictlySortedBy compare_objects xs → ListsExactly compare_objects (λ o. sets_of s n (object_by o) ≡ true) xs
 of_some s c n r k xs e f g q h = row_exactly s n xs (q ∙ ap (row_at s.rows) (sym g ∙ (f ∙ ap (λ d. node_number d n) e))) h
 
-pub of_none : (s : Sets) (c : Numbering) (n : Node) (r : Option ℕ) → c ≡ s.numbers → r ≡ node_number c n → r ≡ None → ListsExactly compare_objects (λ o. sets_of s n (object_by o) ≡ true) []
+pub of_none : (s : Sets) (c : GroupCounts) (n : Node) (r : Option ℕ) → c ≡ s.numbers → r ≡ node_number c n → r ≡ None → ListsExactly compare_objects (λ o. sets_of s n (object_by o) ≡ true) []
 unfolding IsStrictlySortedBy
 of_none s c n r e f g = row_exactly s n [] (ap (row_at s.rows) (sym g ∙ (f ∙ ap (λ d. node_number d n) e))) tt

@@ -9,21 +9,20 @@ use Rattle.ir_model.specs.declared.object.ObjId.TheVariants.{Global}
 use Rattle.ir_model.specs.Objects.{object_by, compare_objects}
 use Rattle.ir_model.specs.State.{Object, GlobalObject, PeriphObject, LocalObject, FunctionObject}
 use Rattle.plan_model.specs.Lists.{ListsExactly}
-use Rattle.need_sets.specs.declared.numbering.Numbering.{Numbering}
 use Rattle.need_numbers.specs.Groups.{place_of}
 use Rattle.need_numbers.proofs.GroupPlaces.{alone}
-use Rattle.need_sets.specs.Numbers.{object_number, AreByNumber}
+use Rattle.need_sets.specs.Numbers.{GroupCounts, object_number, AreByNumber}
 use Rattle.need_sets.specs.Sets.{same_object}
 use Rattle.need_sets.specs.Pairs.{has_number, object_at}
 use Rattle.need_sets.proofs.Members.{same_is, same_self}
 use Rattle.base_laws.proofs.Tests.{same_tests as same_truth}
 use Rattle.base_laws.proofs.Options.{guarded}
 
-local_at : (c : Numbering) (f l k : ℕ) → object_number c (LocalObject f l) ≡ Some k → (f < c.funcs) × (place_of c.objects (2 + f) l ≡ Some k)
+local_at : (c : GroupCounts) (f l k : ℕ) → object_number c (LocalObject f l) ≡ Some k → (f < c.funcs) × (place_of c.objects (2 + f) l ≡ Some k)
 local_at c f l k e =
     let h = guarded (nat_lt f c.funcs) (place_of c.objects (2 + f) l) k e in (ltb-true f c.funcs h.0, h.1)
 
-same_number : (c : Numbering) (a b : Object) (k : ℕ) → object_number c a ≡ Some k → object_number c b ≡ Some k → a ≡ b
+same_number : (c : GroupCounts) (a b : Object) (k : ℕ) → object_number c a ≡ Some k → object_number c b ≡ Some k → a ≡ b
 same_number c (GlobalObject g) (GlobalObject h) k e f = ap GlobalObject (alone c.objects 0 0 g h k e f).1
 same_number c (GlobalObject g) (PeriphObject h) k e f = let r = (alone c.objects 0 1 g h k e f).0 in absurd (omega arith)
 same_number c (GlobalObject g) (LocalObject h m) k e f = let r = (alone c.objects 0 (2 + h) g m k e (local_at c h m k f).1).0 in absurd (omega arith)
@@ -61,7 +60,7 @@ abbrev Named : List ObjId → List ℕ → List ObjId → Type 0
 Named by_number js xs = ListsExactly compare_objects (Contains (map (object_at by_number) js)) xs
 
 -- an object at the place of a number of the list has this number
-numbered : (c : Numbering) (by_number : List ObjId) (js : List ℕ) → AreByNumber c by_number → Below js by_number → (x : ObjId) → Contains (map (object_at by_number) js) x → has_number js (object_number c (object_by x)) ≡ true
+numbered : (c : GroupCounts) (by_number : List ObjId) (js : List ℕ) → AreByNumber c by_number → Below js by_number → (x : ObjId) → Contains (map (object_at by_number) js) x → has_number js (object_number c (object_by x)) ≡ true
 numbered c by_number js t below x h =
     let m = h.0 in
     let l : m < length js = let e = length-map js (object_at by_number) in let b = h.1 in omega arith in
@@ -70,14 +69,14 @@ numbered c by_number js t below x h =
     let n : object_number c (object_by x) ≡ Some j = subst (λ y. object_number c (object_by y) ≡ Some j) e (t.each j (Global 0) (below m l)) in
     subst (λ (r : Option ℕ). has_number js r ≡ true) (sym n) (list_any_at (nat_eq j) js m 0 l (eq-eqb j j refl))
 
-listed_has : (c : Numbering) (by_number : List ObjId) (js : List ℕ) (xs : List ObjId) → AreByNumber c by_number → Below js by_number → Named by_number js xs → (o : Object) → lists xs o ≡ true → has_number js (object_number c o) ≡ true
+listed_has : (c : GroupCounts) (by_number : List ObjId) (js : List ℕ) (xs : List ObjId) → AreByNumber c by_number → Below js by_number → Named by_number js xs → (o : Object) → lists xs o ≡ true → has_number js (object_number c o) ≡ true
 listed_has c by_number js xs t below e o h =
     let a = Any-from_list_any (λ x. same_object (object_by x) o) xs h in
     let x = a.1 in
     let s : object_by x ≡ o = same_is (object_by x) o a.4 in
     subst (λ (b : Object). has_number js (object_number c b) ≡ true) s (numbered c by_number js t below x (e.each x (a.0, a.2, a.3)))
 
-found : (c : Numbering) (by_number : List ObjId) (js : List ℕ) (xs : List ObjId) → AreByNumber c by_number → Below js by_number → Named by_number js xs → (o : Object) (r : Option ℕ) → object_number c o ≡ r → has_number js r ≡ true → lists xs o ≡ true
+found : (c : GroupCounts) (by_number : List ObjId) (js : List ℕ) (xs : List ObjId) → AreByNumber c by_number → Below js by_number → Named by_number js xs → (o : Object) (r : Option ℕ) → object_number c o ≡ r → has_number js r ≡ true → lists xs o ≡ true
 found c by_number js xs t below e o None n h = absurd (false≢true h)
 found c by_number js xs t below e o (Some j) n h =
     let a = Any-from_list_any (nat_eq j) js h in
@@ -92,5 +91,5 @@ found c by_number js xs t below e o (Some j) n h =
     let v = e.all x (m, w, u) in
     list_any_at (λ y. same_object (object_by y) o) xs v.0 x v.1 (subst (λ y. same_object (object_by y) o ≡ true) (sym v.2) (subst (λ b. same_object (object_by x) b ≡ true) s (same_self (object_by x))))
 
-pub lists_numbers : (c : Numbering) (by_number : List ObjId) (js : List ℕ) (xs : List ObjId) → AreByNumber c by_number → Below js by_number → Named by_number js xs → (o : Object) → lists xs o ≡ has_number js (object_number c o)
+pub lists_numbers : (c : GroupCounts) (by_number : List ObjId) (js : List ℕ) (xs : List ObjId) → AreByNumber c by_number → Below js by_number → Named by_number js xs → (o : Object) → lists xs o ≡ has_number js (object_number c o)
 lists_numbers c by_number js xs t below e o = same_truth (lists xs o) (has_number js (object_number c o)) (listed_has c by_number js xs t below e o) (found c by_number js xs t below e o (object_number c o) refl)

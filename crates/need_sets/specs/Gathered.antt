@@ -2,8 +2,7 @@
 -- Rules over numbers that ask what a program asks.
 use Rattle.std.specs.Prelude.{◌≡◌, ℕ, ◌+◌, ◌⊎◌, Bool, true, false, List, [], ◌++◌, length, get_or, count_by, Some, Contains}
 use Rattle.ir_model.specs.Types.{type_of}
-use Rattle.need_sets.specs.declared.numbering.Numbering.{Numbering}
-use Rattle.need_sets.specs.Numbers.{node_number, object_number}
+use Rattle.need_sets.specs.Numbers.{GroupCounts, node_number, object_number}
 use Rattle.need_sets.specs.declared.rules.Pair.{Pair}
 use Rattle.need_sets.specs.declared.rules.Edge.{Edge}
 use Rattle.need_sets.specs.declared.rules.Trigger.{Trigger}
@@ -24,7 +23,7 @@ HasItem r (Copy e) = Contains r.copies.items e
 HasItem r (Asks n t) = Contains (get_or (lists_in r.triggers) n []) t
 
 -- a demand, by the numbers of nodes and objects
-abbrev pub IsNumbered : Numbering → Demand → Item → Type 0
+abbrev pub IsNumbered : GroupCounts → Demand → Item → Type 0
 IsNumbered c (HasObject n o) (Fact x) = (node_number c n ≡ Some x.node) × (object_number c o ≡ Some x.object)
 IsNumbered c (PassesOn a b) (Copy e) = (node_number c a ≡ Some e.from) × (node_number c b ≡ Some e.to)
 IsNumbered c (LoadsTo n to) (Asks i (trigger.Load j)) = (node_number c n ≡ Some i) × (node_number c to ≡ Some j)
@@ -48,22 +47,22 @@ abbrev pub names_object : Demand → Bool
 names_object (HasObject n o) = true
 names_object _ = false
 
-pub record IsMet (c : Numbering) (r : Rules) (d : Demand) : Type 0 where
+pub record IsMet (c : GroupCounts) (r : Rules) (d : Demand) : Type 0 where
   pub item : Item
   pub is : IsNumbered c d item
   pub there : HasItem r item
 
-pub record IsAskedBy (c : Numbering) (ds : List Demand) (x : Item) : Type 0 where
+pub record IsAskedBy (c : GroupCounts) (ds : List Demand) (x : Item) : Type 0 where
   pub demand : Demand
   pub listed : Contains ds demand
   pub is : IsNumbered c demand x
 
 -- rules say what demands ask, and nothing else
-pub record Represents (c : Numbering) (r : Rules) (ds : List Demand) : Type 0 where
+pub record Represents (c : GroupCounts) (r : Rules) (ds : List Demand) : Type 0 where
   pub all : (d : Demand) → Contains ds d → IsMet c r d
   pub each : (x : Item) → HasItem r x → IsAskedBy c ds x
   pub facts : length r.facts.items ≡ count_by names_object ds
 
 -- rules say these demands besides what they said
-pub record Gathers (c : Numbering) (old new : Rules) (ds : List Demand) : Type 0 where
+pub record Gathers (c : GroupCounts) (old new : Rules) (ds : List Demand) : Type 0 where
   pub more : (before : List Demand) → Represents c old before → Represents c new (before ++ ds)

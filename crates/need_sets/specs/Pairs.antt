@@ -4,8 +4,7 @@ use Rattle.std.specs.Prelude.{ℕ, ◌<◌, Bool, false, List, length, get_or, O
 use Rattle.ir_laws.specs.Sets.{ObjectSets}
 use Rattle.ir_model.specs.declared.object.ObjId.{ObjId}
 use Rattle.ir_model.specs.declared.object.ObjId.TheVariants.{Global}
-use Rattle.need_sets.specs.declared.numbering.Numbering.{Numbering}
-use Rattle.need_sets.specs.Numbers.{node_number, object_number}
+use Rattle.need_sets.specs.Numbers.{GroupCounts, node_number, object_number}
 use Rattle.need_numbers.specs.Rows.{Lists, row, has}
 
 -- how many objects there are, and those of each node
@@ -26,7 +25,7 @@ is_pair rows None object = false
 is_pair rows (Some n) object = has_number (row rows n) object
 
 -- the pairs as the definition's sets: a node has an object where both have numbers and these are a pair
-abbrev pub sets_by : Numbering → Lists → ObjectSets
+abbrev pub sets_by : GroupCounts → Lists → ObjectSets
 sets_by c rows n o = is_pair rows (node_number c n) (object_number c o)
 
 -- the object at a place of a list

@@ -7,8 +7,7 @@ use Rattle.ir_model.specs.declared.object.ObjId.{ObjId}
 use Rattle.ir_model.specs.Objects.{object_by, compare_objects}
 use Rattle.ir_model.specs.State.{Object, GlobalObject, PeriphObject, LocalObject, FunctionObject}
 use Rattle.ir_laws.specs.Sets.{Node, ObjectSets}
-use Rattle.need_sets.specs.declared.numbering.Numbering.{Numbering}
-use Rattle.need_sets.specs.Numbers.{node_number}
+use Rattle.need_sets.specs.Numbers.{GroupCounts, node_number}
 
 abbrev pub same_object : Object → Object → Bool
 same_object (GlobalObject g) (GlobalObject h) = nat_eq g h
@@ -19,7 +18,7 @@ same_object _ _ = false
 
 -- how nodes are numbered, and the objects of each
 pub record Sets : Type 0 where
-  pub numbers : Numbering
+  pub numbers : GroupCounts
   pub rows : List (List ObjId)
 
 abbrev pub AreInOrder : List (List ObjId) → Type 0

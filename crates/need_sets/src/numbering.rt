@@ -11,16 +11,17 @@ use crate::node::Node;
 use ir_model::object::ObjId;
 use need_numbers::Groups;
 use std::alloc::{AllocError, Global};
+use std::marker::Model;
 
-/// How nodes and objects are numbered: objects in their order, and nodes with the registers of all functions first, then
-/// the contents of the objects, then the results of the functions.
+/// How nodes and objects are numbered, seen as the counts of their groups: objects in their order, and nodes with the registers of all
+/// functions first, then the contents of the objects, then the results of the functions.
 pub struct Numbering {
     /// How many functions there are.
-    pub funcs: u32,
+    pub(crate) funcs: u32,
     /// The objects in groups: globals, peripherals, the locals of each function, functions.
-    pub objects: Groups,
+    pub(crate) objects: Groups,
     /// The nodes in groups: the registers of each function, contents, results.
-    pub nodes: Groups,
+    pub(crate) nodes: Groups,
 }
 
 impl Drop for Numbering {
@@ -31,6 +32,17 @@ impl Drop for Numbering {
             nodes: _,
         } = self;
     }
+}
+
+impl Model for Numbering {
+    ghost use Rattle.std.specs.Prelude.{◌≡◌, ◌+◌, length};
+    ghost use Rattle.need_sets.specs.Numbers.{GroupCounts};
+
+    ghost Value = { GroupCounts };
+
+    ghost view = { λ n. record { funcs = n.funcs; objects = n.objects; nodes = n.nodes } };
+
+    ghost invariant = { λ n. length n.objects ≡ 3 + n.funcs };
 }
 
 impl Numbering {
@@ -74,7 +86,6 @@ impl Numbering {
     ///
     /// There is no memory for them.
     pub fn all_objects(&self, alloc: Global) -> Result<Vec<ObjId>, AllocError>
-        requires { length self.now.objects ≡ 3 + self.now.funcs }
         ensures count { IfOk result (λ by_number. length by_number.items ≡ sum self.now.objects) }
         ensures by_number { IfOk result (λ by_number. AreByNumber self.now by_number.items) }
     {
@@ -83,6 +94,27 @@ impl Numbering {
             self.put_items(&mut by_number, group)?;
         }
         Ok(by_number)
+    }
+
+    /// How many objects there are.
+    pub fn object_count(&self) -> u32
+        ensures { result ≡ sum self.now.objects }
+    {
+        self.objects.total()
+    }
+
+    /// How many nodes there are.
+    pub fn node_count(&self) -> u32
+        ensures { result ≡ sum self.now.nodes }
+    {
+        self.nodes.total()
+    }
+
+    /// The number of the first function among the objects.
+    pub fn first_func(&self) -> u32
+        ensures { result ≡ start_of self.now.objects (2 + self.now.funcs) }
+    {
+        self.objects.start(2 + self.funcs as usize)
     }
 
     /// The number of an object; `None` if it is absent.

@@ -26,7 +26,7 @@ fn register_carries(routine: &Routine, register: usize) -> bool
 fn function_of(numbering: &Numbering, object: u32) -> Option<u32>
     ensures { result ≡ callee_of numbering.now object }
 {
-    let first = numbering.objects.start(2 + numbering.funcs as usize);
+    let first = numbering.first_func();
     if first <= object {
         Some(object - first)
     } else {
