@@ -6,3 +6,5 @@ mod SourceRunnable
 mod Good
 mod Followed
 mod Settled
+mod Outside
+mod Stated

@@ -4,3 +4,4 @@ pub mod Endings
 pub mod Seen
 pub mod Complete
 pub mod Bounded
+pub mod Clauses
