@@ -6,7 +6,8 @@ use Rattle.ir_model.specs.Plain.{PlainFirmware, funcs_of}
 use Rattle.ir_model.specs.Resolved.{Program}
 use Rattle.ir_model.specs.Resolve.{resolve}
 use Rattle.ir_program.specs.declared.program.Program as programs
-use Rattle.ir_program.specs.Seen.{program_of, routine_of, known_of}
+use Rattle.ir_program.specs.Parts.{routine_of}
+use Rattle.ir_program.specs.Seen.{program_of, known_of}
 use Rattle.plan_model.specs.declared.groups.FuncFacts.{FuncFacts}
 use Rattle.plan_model.specs.declared.groups.Groups.{Groups}
 use Rattle.plan_model.specs.declared.needs.Needs.{Needs}

@@ -3,7 +3,7 @@
 ghost use Rattle.std.specs.Prelude.{◌≡◌, ◌≤◌, ℕ, Bool, List, Ok, IfOk, length};
 ghost use Rattle.ir_model.specs.Plain as plain;
 ghost use Rattle.ir_model.specs.Resolve.{resolve};
-ghost use Rattle.ir_program.specs.Seen.{program_of, HasCounts};
+ghost use Rattle.ir_program.specs.Seen.{program_of};
 ghost use Rattle.plan_compartments.specs.Analyses.{AreCompartmentsBy};
 ghost use Rattle.ir_output.specs.Ends.{seen_end};
 ghost use Rattle.ir_output.specs.SourceRuns.{end_status};
@@ -76,7 +76,6 @@ pub fn divided_program(
     policy: Policy,
 ) -> Result<DividedProgram<'_>, AllocError>
     ensures program { IfOk result (λ made. program_of made.program ≡ resolve (plain.firmware_of firmware.now)) }
-    ensures counts { IfOk result (λ made. HasCounts made.program) }
     ensures compartments { IfOk result (λ made. AreCompartmentsBy policy (plain.firmware_of firmware.now) made.compartments.items) }
 {
     let analysis = analyse(alloc, firmware, policy, false)?;

@@ -4,7 +4,7 @@ ghost use Rattle.std.specs.Prelude.{◌≡◌, ◌+◌, ◌*◌, ◌≤◌, leng
 ghost use Rattle.machine_devices.specs.Rules.{ObeysRules};
 ghost use Rattle.ir_model.specs.Plain.{firmware_of};
 ghost use Rattle.ir_model.specs.State.{start};
-ghost use Rattle.ir_program.specs.Seen.{program_of, HasCounts};
+ghost use Rattle.ir_program.specs.Seen.{program_of};
 ghost use Rattle.ir_model.specs.Checked.{IsChecked};
 ghost use Rattle.aces_compiler.specs.PrintedRuns.{begin};
 ghost use Rattle.aces_selftest.specs.Answers.{source_limit};
@@ -43,7 +43,6 @@ fn count_of_run(
     tape: Tape,
 ) -> Result<SourceCount, AllocError>
     requires checked { IsChecked (program_of program.now) }
-    requires counts { HasCounts program.now }
     ensures { IfOk result (IsSourceCount (program_of program.now) compartments.items source_limit (start (program_of program.now) tape)) }
 {
     let mut run = SourceRun::start(alloc, program, compartments, tape)?;

@@ -4,7 +4,7 @@ ghost use Rattle.std.specs.Prelude.{◌≡◌, ◌≤◌, ℕ, List, None, lengt
 ghost use Rattle.ir_model.specs.Plain.{firmware_of};
 ghost use Rattle.ir_model.specs.Resolve.{resolve};
 ghost use Rattle.ir_model.specs.State.{start};
-ghost use Rattle.ir_program.specs.Seen.{program_of, HasCounts};
+ghost use Rattle.ir_program.specs.Seen.{program_of};
 ghost use Rattle.aces_words.specs.Requests.{file_limit, firmware_limit};
 ghost use Rattle.aces_files.specs.Loads.{IsRefusal};
 ghost use Rattle.aces_files.specs.Outcomes.{done};
@@ -42,7 +42,6 @@ fn halt_of_run(
     steps: u32,
 ) -> Result<Halt, AllocError>
     requires program { program_of program.now ≡ resolve (firmware_of firmware.now) }
-    requires counts { HasCounts program.now }
     ensures { IfOk result (IsHalt (resolve (firmware_of firmware.now)) compartments.now steps (start (resolve (firmware_of firmware.now)) tape)) }
 {
     let standing = Vec::from_slice(alloc, compartments)?;
@@ -64,7 +63,6 @@ fn lines_of(
     halt: Halt,
 ) -> Result<Vec<u8>, AllocError>
     requires program { program_of program.now ≡ resolve (firmware_of firmware.now) }
-    requires counts { HasCounts program.now }
     ensures { IfOk result (λ lines. lines.items ≡ halt_lines (firmware_of firmware.now) compartments.now tape halt) }
 {
     let standing = Vec::from_slice(alloc, compartments)?;
@@ -89,7 +87,6 @@ fn lines_on(
     steps: u32,
 ) -> Result<Vec<u8>, AllocError>
     requires program { program_of program.now ≡ resolve (firmware_of firmware.now) }
-    requires counts { HasCounts program.now }
     requires again { again ≡ tape }
     ensures { IfOk result (λ lines. AreLines (firmware_of firmware.now) compartments.now tape steps lines.items) }
 {

@@ -3,7 +3,8 @@
 ghost use Rattle.std.specs.Prelude.{◌≡◌, ◌&&◌};
 ghost use Rattle.std.specs.List.{list_any};
 ghost use Rattle.ir_model.specs.Resolved.{window_at};
-ghost use Rattle.ir_program.specs.Seen.{program_of, span_of};
+ghost use Rattle.ir_program.specs.Parts.{span_of};
+ghost use Rattle.ir_program.specs.Seen.{program_of};
 ghost use Rattle.plan_model.specs.declared.graph.DataRegion.{DataRegion as TheRegion};
 ghost use Rattle.plan_model.specs.Lists.{has};
 ghost use Rattle.plan_model.specs.Permission as permission;

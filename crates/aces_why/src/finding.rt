@@ -5,7 +5,8 @@ ghost use Rattle.ir_model.specs.Layout.{Known};
 ghost use Rattle.ir_model.specs.Plain.{firmware_of};
 ghost use Rattle.ir_model.specs.Resolve as definition;
 ghost use Rattle.ir_model.specs.Resolved.{func_at};
-ghost use Rattle.ir_program.specs.Seen.{program_of, sequence_of, exit_of, HasCounts};
+ghost use Rattle.ir_program.specs.Parts.{sequence_of, exit_of};
+ghost use Rattle.ir_program.specs.Seen.{program_of};
 ghost use Rattle.need_sets.specs.Sets.{sets_of};
 ghost use Rattle.ir_model.specs.Checked.{IsChecked};
 ghost use Rattle.need_laws.specs.Checked.{AreSets};
@@ -185,7 +186,6 @@ pub fn findings(
     program: &Program,
 ) -> Result<Findings, AllocError>
     requires program { program_of program.now ≡ definition.resolve (firmware_of firmware.now) }
-    requires counts { HasCounts program.now }
     ensures { IfOk result (found.AreFindingsOf (program_of program.now)) }
 {
     firmware.firmware();

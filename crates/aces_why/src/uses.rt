@@ -2,7 +2,7 @@
 
 ghost use Rattle.std.specs.Prelude.{◌≡◌, ◌++◌, List, map, OnOk};
 ghost use Rattle.ir_model.specs.Layout.{Known};
-ghost use Rattle.ir_program.specs.Seen.{operation_of, sequence_of, routine_of};
+ghost use Rattle.ir_program.specs.Parts.{operation_of, sequence_of, routine_of};
 ghost use Rattle.aces_why.specs.Lines as lines;
 ghost use Rattle.aces_why.specs.Numbered.{numbered};
 ghost use Rattle.aces_why.specs.Subjects as subjects;

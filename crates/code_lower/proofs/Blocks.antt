@@ -8,7 +8,8 @@ use Rattle.machine_thumb_asm.specs.Assembly.{Assembly, here, total}
 use Rattle.ir_model.specs.Resolved.{NumberedInst, NumberedTerm, NumberedBlock, NumberedFunc, Const, no_block}
 use Rattle.ir_program.specs.declared.program.Operation.{Operation}
 use Rattle.ir_program.specs.declared.program.Sequence.{Sequence}
-use Rattle.ir_program.specs.Seen.{known_of, operation_of, sequence_of}
+use Rattle.ir_program.specs.Parts.{operation_of, sequence_of}
+use Rattle.ir_program.specs.Seen.{known_of}
 use Rattle.code_model.specs.declared.places.Places.{Places}
 use Rattle.code_lower.specs.declared.subject.Subject.{Subject}
 use Rattle.code_model.specs.Places.{site_in, crosses}

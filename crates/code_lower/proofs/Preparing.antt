@@ -5,7 +5,8 @@ use Rattle.std.proofs.lemmas.List.FromFn.{get_or-map-range_with_len, length-map-
 use Rattle.machine_thumb_asm.specs.declared.item.Label.{Label}
 use Rattle.ir_program.specs.declared.program.Routine.{Routine}
 use Rattle.ir_program.specs.declared.program.Program.{Program}
-use Rattle.ir_program.specs.Seen.{known_of, routine_of}
+use Rattle.ir_program.specs.Parts.{routine_of}
+use Rattle.ir_program.specs.Seen.{known_of}
 use Rattle.code_model.specs.declared.places.Places.{Places}
 use Rattle.code_lower.specs.declared.subject.Subject.{Subject}
 use Rattle.code_model.specs.FrameShape.{local_starts, frame_size}

@@ -4,7 +4,7 @@ use Rattle.ir_model.specs.Layout.{Known}
 use Rattle.ir_program.specs.declared.program.Storage.{Storage}
 use Rattle.ir_program.specs.declared.program.Routine.{Routine}
 use Rattle.ir_program.specs.Storages.{shape_of}
-use Rattle.ir_program.specs.Seen.{routine_of}
+use Rattle.ir_program.specs.Parts.{routine_of}
 use Rattle.code_model.specs.FrameShape.{local_size, starts_from, local_starts}
 
 -- cells do not matter for the frame

@@ -8,7 +8,8 @@ use Rattle.machine_thumb_asm.specs.declared.item.Item.{Item}
 use Rattle.machine_thumb_asm.specs.Assembly.{Assembly}
 use Rattle.ir_model.specs.Resolved.{NumberedInst, NumberedBlock, NumberedFunc, no_block}
 use Rattle.ir_program.specs.declared.program.Operation.{Operation}
-use Rattle.ir_program.specs.Seen.{known_of, operation_of, routine_of}
+use Rattle.ir_program.specs.Parts.{operation_of, routine_of}
+use Rattle.ir_program.specs.Seen.{known_of}
 use Rattle.code_lower.specs.declared.subject.Lent.{Lent}
 use Rattle.code_lower.specs.declared.subject.Subject.{Subject}
 use Rattle.code_model.specs.FrameShape.{frame_shape, local_starts}

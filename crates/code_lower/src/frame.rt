@@ -2,7 +2,7 @@
 
 ghost use Rattle.std.specs.Prelude.{◌≡◌, ◌<◌, ◌≤◌, [], IfOk};
 ghost use Rattle.std.specs.List.{All};
-ghost use Rattle.ir_program.specs.Seen.{routine_of};
+ghost use Rattle.ir_program.specs.Parts.{routine_of};
 ghost use Rattle.code_model.specs.FrameShape as frames;
 ghost use Rattle.ir_model.specs.Typing.{frame_limit};
 

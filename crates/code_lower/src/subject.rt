@@ -3,7 +3,8 @@
 ghost use Rattle.std.specs.Prelude.{◌≡◌, ◌+◌, ◌/◌, ◌<◌, [], ◌∷◌, ◌++◌, map, length, replicate, None, OnOk, IfOk, IfSome};
 ghost use Rattle.std.specs.List.{All};
 ghost use Rattle.ir_model.specs.Resolved.{func_at};
-ghost use Rattle.ir_program.specs.Seen.{known_of, routine_of, sequence_of, program_of};
+ghost use Rattle.ir_program.specs.Parts.{routine_of, sequence_of};
+ghost use Rattle.ir_program.specs.Seen.{known_of, program_of};
 ghost use Rattle.std.proofs.Math.ListN.{get_or};
 ghost use Rattle.code_model.specs.FrameShape.{frame_shape};
 ghost use Rattle.code_model.specs.Places as definition;

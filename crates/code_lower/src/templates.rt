@@ -2,7 +2,7 @@
 
 ghost use Rattle.std.specs.Prelude.{◌≡◌, ◌+◌, ◌%◌, ◌<◌, length, OnOk};
 ghost use Rattle.machine_thumb_asm.specs.Assembly.{here, total};
-ghost use Rattle.ir_program.specs.Seen.{target_of, exit_of};
+ghost use Rattle.ir_program.specs.Parts.{target_of, exit_of};
 ghost use Rattle.ir_model.specs.Resolved as resolved;
 ghost use Rattle.code_model.specs.Words.{plain};
 ghost use Rattle.code_model.specs.Addresses as address;

@@ -11,7 +11,7 @@ use Rattle.ir_program.specs.declared.program.Sequence.{Sequence}
 use Rattle.ir_program.specs.declared.program.Storage.{Storage}
 use Rattle.ir_program.specs.declared.program.Routine.{Routine}
 use Rattle.ir_program.specs.Storages.{shape_of}
-use Rattle.ir_program.specs.Seen.{operation_of, exit_of, sequence_of, routine_of}
+use Rattle.ir_program.specs.Parts.{operation_of, exit_of, sequence_of, routine_of}
 use Rattle.code_model.specs.declared.places.CallSite.{CallSite}
 use Rattle.code_model.specs.FrameShape.{local_size, locals_size, frame_size, frame_shape}
 use Rattle.code_model.specs.Places.{crosses}

@@ -4,7 +4,7 @@ use Rattle.std.proofs.lemmas.List.{take_all}
 use Rattle.ir_model.specs.Resolved.{NumberedFunc, NumberedTerm, Does, here_in}
 use Rattle.ir_program.specs.declared.program.Operation.{Operation}
 use Rattle.ir_program.specs.declared.program.Sequence.{Sequence}
-use Rattle.ir_program.specs.Seen.{operation_of, sequence_of}
+use Rattle.ir_program.specs.Parts.{operation_of, sequence_of}
 use Rattle.code_model.specs.declared.places.CallSite.{CallSite}
 use Rattle.code_model.specs.Places.{crosses}
 use Rattle.code_model.specs.Sizes.{inst_size, insts_size, block_size, blocks_size}

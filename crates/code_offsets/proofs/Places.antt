@@ -6,7 +6,7 @@ use Rattle.ir_model.specs.Resolved.{NumberedFunc, NumberedBlock, Here, Does, no_
 use Rattle.ir_program.specs.declared.program.Operation.{Operation}
 use Rattle.ir_program.specs.declared.program.Sequence.{Sequence}
 use Rattle.ir_program.specs.declared.program.Routine.{Routine}
-use Rattle.ir_program.specs.Seen.{operation_of, exit_of, sequence_of, routine_of}
+use Rattle.ir_program.specs.Parts.{operation_of, exit_of, sequence_of, routine_of}
 use Rattle.code_model.specs.declared.places.CallSite.{CallSite}
 use Rattle.code_model.specs.Places.{crosses}
 use Rattle.code_model.specs.Sizes.{term_size, resume_size, insts_size, blocks_size, block_offset, place_offset, site_offset}

@@ -3,7 +3,8 @@
 ghost use Rattle.std.specs.Prelude.{◌≡◌, ◌^◌, ◌≤◌, ◌⊎◌, [], length, map, IfNone, IfSome};
 ghost use Rattle.ir_model.specs.Resolved.{func_at};
 ghost use Rattle.ir_program.specs.Storages.{shape_of};
-ghost use Rattle.ir_program.specs.Seen.{program_of, routine_of};
+ghost use Rattle.ir_program.specs.Parts.{routine_of};
+ghost use Rattle.ir_program.specs.Seen.{program_of};
 ghost use Rattle.code_model.specs.FrameShape as frames;
 
 use crate::routines::routine_at;

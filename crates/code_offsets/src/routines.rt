@@ -2,7 +2,8 @@
 
 ghost use Rattle.std.specs.Prelude.{◌≡◌, ◌<◌, ◌≤◌, length, IfNone, IfSome};
 ghost use Rattle.ir_model.specs.Resolved.{func_at};
-ghost use Rattle.ir_program.specs.Seen.{known_of, program_of, routine_of};
+ghost use Rattle.ir_program.specs.Parts.{routine_of};
+ghost use Rattle.ir_program.specs.Seen.{known_of, program_of};
 
 use ir_program::program::{Program, Routine};
 

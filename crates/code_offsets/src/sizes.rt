@@ -3,7 +3,8 @@
 ghost use Rattle.std.specs.Prelude.{◌≡◌, ◌+◌, ◌*◌, ◌<◌, ◌≤◌, ℕ, [], length, map, take, IfSome};
 ghost use Rattle.ir_model.specs.Resolved.{NumberedFunc, Does, func_at};
 ghost use Rattle.ir_model.specs.Signatures.{row_length};
-ghost use Rattle.ir_program.specs.Seen.{target_of, operation_of, exit_of, sequence_of, routine_of, program_of};
+ghost use Rattle.ir_program.specs.Parts.{target_of, operation_of, exit_of, sequence_of, routine_of};
+ghost use Rattle.ir_program.specs.Seen.{program_of};
 ghost use Rattle.code_model.specs.Places.{crosses};
 ghost use Rattle.code_model.specs.Sizes as sizes;
 

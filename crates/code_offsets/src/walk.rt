@@ -2,7 +2,7 @@
 //! 32 bits, or if no instruction stands at a place.
 
 ghost use Rattle.std.specs.Prelude.{◌≡◌, List, [], IfSome};
-ghost use Rattle.ir_program.specs.Seen.{routine_of};
+ghost use Rattle.ir_program.specs.Parts.{routine_of};
 ghost use Rattle.code_model.specs.Sizes as sizes;
 ghost use Rattle.code_offsets.specs.Walks.{IsReached};
 

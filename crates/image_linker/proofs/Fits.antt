@@ -4,7 +4,8 @@ use Rattle.std.proofs.lemmas.List.{length-map}
 use Rattle.std.proofs.lemmas.List.FromFn.{length-map-range_with_len}
 use Rattle.std.proofs.lemmas.List.Elements.{All-nil, All-get_or}
 use Rattle.ir_model.specs.Resolved.{Program, func_at}
-use Rattle.ir_program.specs.Seen.{known_of, routine_of, variable_of, span_of}
+use Rattle.ir_program.specs.Parts.{routine_of, variable_of, span_of}
+use Rattle.ir_program.specs.Seen.{known_of}
 use Rattle.code_model.specs.declared.places.CallSite.{CallSite}
 use Rattle.code_model.specs.CompartmentCode.{entry_of}
 use Rattle.code_model.specs.Fitting.{FuncFits}

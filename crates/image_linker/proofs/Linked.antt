@@ -3,7 +3,8 @@ use Rattle.std.proofs.Common.{◌≡◌, ℕ, List, [], ◌∷◌, ◌++◌, len
 use Rattle.std.proofs.lemmas.List.{length-map}
 use Rattle.std.proofs.lemmas.List.FromFn.{get_or-map-range_with_len, length-map-range_with_len}
 use Rattle.ir_model.specs.Resolved.{Program, func_at}
-use Rattle.ir_program.specs.Seen.{known_of, routine_of, variable_of, span_of}
+use Rattle.ir_program.specs.Parts.{routine_of, variable_of, span_of}
+use Rattle.ir_program.specs.Seen.{known_of}
 use Rattle.plan_model.specs.declared.needs.SiteNeed.{SiteNeed}
 use Rattle.plan_model.specs.declared.graph.Final.{Final}
 use Rattle.plan_model.specs.Lists.{numbers_below}

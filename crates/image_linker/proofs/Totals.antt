@@ -4,7 +4,8 @@ use Rattle.std.proofs.lemmas.List.FromFn.{get_or-map-range_with_len, length-map-
 use Rattle.std.proofs.lemmas.List.{length-map, length-take-le}
 use Rattle.ir_model.specs.Resolved.{Program}
 use Rattle.ir_program.specs.declared.program.Program as programs
-use Rattle.ir_program.specs.Seen.{program_of, known_of, routine_of}
+use Rattle.ir_program.specs.Parts.{routine_of}
+use Rattle.ir_program.specs.Seen.{program_of, known_of}
 use Rattle.plan_model.specs.declared.graph.Final.{Final}
 use Rattle.plan_model.specs.declared.plan.Plan.{Plan}
 use Rattle.plan_model.specs.declared.plan.Spot.{Spot}

@@ -6,7 +6,7 @@ ghost use Rattle.base_outside.specs.Contents.{AddsPrefix};
 ghost use Rattle.ir_model.specs.Canonical.{IsWithinLimits};
 ghost use Rattle.ir_model.specs.Plain.{firmware_of};
 ghost use Rattle.ir_model.specs.Resolve.{resolve};
-ghost use Rattle.ir_program.specs.Seen.{program_of, HasCounts};
+ghost use Rattle.ir_program.specs.Seen.{program_of};
 ghost use Rattle.ir_program.specs.Windows.{windows_of};
 ghost use Rattle.ir_output.specs.SourceRuns.{source_run, source_end, source_event_lines, source_lines};
 ghost use Rattle.ir_output.specs.Ends.{seen_end, IsCause};
@@ -70,7 +70,6 @@ pub fn run_at_start<'a>(
     tape: Tape,
 ) -> Result<SourceRun<'a>, AllocError>
     requires program { program_of program.now ≡ resolve (firmware_of firmware.now) }
-    requires counts { HasCounts program.now }
     ensures run { IfOk result (λ run. run ≡ source_run (firmware_of firmware.now) compartments.items tape) }
     ensures within { OnOk result (IsWithinLimits (firmware_of firmware.now)) }
 {
@@ -92,7 +91,6 @@ fn print_run<O: Sink>(
 ) -> Result<Option<SourceEnd>, Broken>
     requires windows { windows.now ≡ windows_of (firmware_of firmware.now) }
     requires program { program_of program.now ≡ resolve (firmware_of firmware.now) }
-    requires counts { HasCounts program.now }
     ensures end { IfOk result (λ end. seen_end end ≡ source_end (firmware_of firmware.now) compartments.items tape steps) }
     ensures lines { IsTrue O.told → OnOk result
         (O.written out.new ≡ O.written out.old ++ source_event_lines (firmware_of firmware.now) compartments.items tape steps) }
@@ -124,7 +122,6 @@ pub fn print_source<O: Sink>(
 ) -> Result<Option<SourceEnd>, Broken>
     requires windows { windows.now ≡ windows_of (firmware_of firmware.now) }
     requires program { program_of program.now ≡ resolve (firmware_of firmware.now) }
-    requires counts { HasCounts program.now }
     ensures end { IfOk result (λ end. seen_end end ≡ source_end (firmware_of firmware.now) compartments.items tape steps) }
     ensures lines { IsTrue O.told → OnOk result
         (O.written out.new ≡ O.written out.old ++ source_lines (firmware_of firmware.now) compartments.items tape steps) }

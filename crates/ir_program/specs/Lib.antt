@@ -1,4 +1,5 @@
 pub mod Values
 pub mod Storages
+pub mod Parts
 pub mod Seen
 pub mod Windows

@@ -1,5 +1,10 @@
 //! A firmware with numbers for its names.
 
+ghost use Rattle.std.specs.Prelude.{◌≡◌, map};
+ghost use Rattle.ir_model.specs.Plain.{struct_of};
+ghost use Rattle.ir_model.specs.Layout.{known};
+ghost use Rattle.ir_program.specs.Parts.{variable_of, routine_of, cell_count, cell_counts, global_count, local_counts};
+
 use crate::value::Value;
 use base_lists::ListVec;
 use ir_layouts::table::Layouts;
@@ -243,6 +248,8 @@ pub struct Program<'a> {
     pub files: ListVec<u32>,
     /// The number of `main`.
     pub main: u16,
+    pub ghost cells_of_globals: { map global_count globals ≡ map cell_count (map (variable_of (known (map struct_of layouts))) globals) },
+    pub ghost cells_of_locals: { map local_counts funcs ≡ map cell_counts (map (routine_of (known (map struct_of layouts))) funcs) },
 }
 
 impl Drop for Program<'_> {

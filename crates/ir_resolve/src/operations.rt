@@ -2,7 +2,7 @@
 
 ghost use Rattle.std.specs.Prelude.{◌≡◌, map, IfOk};
 ghost use Rattle.ir_model.specs.Resolve as resolving;
-ghost use Rattle.ir_program.specs.Seen.{operation_of, exit_of, sequence_of};
+ghost use Rattle.ir_program.specs.Parts.{operation_of, exit_of, sequence_of};
 ghost use Rattle.ir_resolve.specs.Scopes.{scope_of, named_func, AreFuncNames, AreFew};
 
 use crate::lookup::{element, target};

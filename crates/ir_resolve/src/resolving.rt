@@ -8,8 +8,8 @@ ghost use Rattle.ir_model.specs.Typing.{IsTyped};
 ghost use Rattle.ir_model.specs.TextLimits.{file_limit};
 ghost use Rattle.base_names.specs.Numbers.{number_of};
 ghost use Rattle.ir_model.specs.Resolve as definition;
-ghost use Rattle.ir_program.specs.Seen.{program_of, variable_of, span_of, routine_of, cell_count, cell_counts, local_counts, HasCounts};
-ghost use Rattle.ir_program.specs.declared.program.Variable.{Variable as VariableOf};
+ghost use Rattle.ir_program.specs.Parts.{variable_of, span_of, routine_of, cell_count, cell_counts, global_count, local_counts};
+ghost use Rattle.ir_program.specs.Seen.{program_of};
 ghost use Rattle.ir_resolve.specs.Scopes.{scope_of, AreFew, AreSmallGlobals, AreSmallFuncs};
 
 use crate::names::Scope;
@@ -57,7 +57,7 @@ fn numbered<'a>(
     requires globals { AreSmallGlobals (known (map struct_of scope.now.layouts)) firmware.now.globals }
     requires funcs { AreSmallFuncs (known (map struct_of scope.now.layouts)) sources.now }
     ensures globals { IfOk result (λ p. map (variable_of (known (map struct_of scope.now.layouts))) p.globals ≡ map (definition.resolved_global (scope_of scope.now)) (firmware_of firmware.now).globals) }
-    ensures cells { IfOk result (λ p. map (λ (v : VariableOf). v.storage.cells) p.globals ≡ map cell_count (map (definition.resolved_global (scope_of scope.now)) (firmware_of firmware.now).globals)) }
+    ensures cells { IfOk result (λ p. map global_count p.globals ≡ map cell_count (map (definition.resolved_global (scope_of scope.now)) (firmware_of firmware.now).globals)) }
     ensures periphs { IfOk result (λ p. map span_of p.periphs ≡ map definition.window_of firmware.now.periphs) }
     ensures funcs { IfOk result (λ p. map (routine_of (known (map struct_of scope.now.layouts))) p.funcs ≡ map (definition.resolved_func (scope_of scope.now)) (map (λ f. func_of f.now) sources.now)) }
     ensures locals { IfOk result (λ p. map local_counts p.funcs ≡ map cell_counts (map (definition.resolved_func (scope_of scope.now)) (map (λ f. func_of f.now) sources.now))) }
@@ -83,7 +83,6 @@ fn resolved(alloc: Global, firmware: &Firmware) -> Result<Program<'_>, AllocErro
     requires within { IsWithinLimits (firmware_of firmware.now) }
     requires typed { IsTyped (firmware_of firmware.now) }
     ensures exact { IfOk result (λ p. program_of p ≡ definition.resolve (firmware_of firmware.now)) }
-    ensures counts { IfOk result HasCounts }
 {
     let sources = all_funcs(alloc, firmware)?;
     let scope = named_scope(alloc, firmware, sources.as_slice())?;
@@ -112,7 +111,6 @@ fn resolved(alloc: Global, firmware: &Firmware) -> Result<Program<'_>, AllocErro
 /// There is no memory for it.
 pub fn resolve(alloc: Global, firmware: &Checked) -> Result<Program<'_>, AllocError>
     ensures exact { IfOk result (λ p. program_of p ≡ definition.resolve (firmware_of firmware.now)) }
-    ensures counts { IfOk result HasCounts }
 {
     resolved(alloc, firmware.firmware())
 }

@@ -6,7 +6,7 @@ ghost use Rattle.ir_model.specs.Layout.{known, shape, Shape};
 ghost use Rattle.ir_model.specs.Plain.{struct_of, binding_of, func_of, firmware_of, types_of, regs_of, funcs_of};
 ghost use Rattle.ir_model.specs.TextLimits.{file_limit};
 ghost use Rattle.ir_model.specs.Resolve as resolving;
-ghost use Rattle.ir_program.specs.Seen.{routine_of, local_counts, cell_counts};
+ghost use Rattle.ir_program.specs.Parts.{routine_of, local_counts, cell_counts};
 ghost use Rattle.ir_program.specs.Storages.{shape_of};
 ghost use Rattle.ir_resolve.specs.Scopes.{scope_of, AreFew, AreSmallBindings, IsSmallFunc, AreSmallFuncs};
 ghost use Rattle.ir_program.specs.declared.program.Storage.{Storage};

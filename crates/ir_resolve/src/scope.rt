@@ -6,7 +6,7 @@ ghost use Rattle.base_names.specs.Numbers.{number_of};
 ghost use Rattle.ir_model.specs.Resolve as resolving;
 ghost use Rattle.ir_model.specs.Typing.{IsTyped};
 ghost use Rattle.ir_model.specs.FewItems.{HasFewLocals};
-ghost use Rattle.ir_program.specs.Seen.{target_of};
+ghost use Rattle.ir_program.specs.Parts.{target_of};
 ghost use Rattle.ir_program.specs.Storages.{pointee_of};
 ghost use Rattle.ir_resolve.specs.Scopes.{scope_of, named_func, AreFuncNames, AreFew};
 

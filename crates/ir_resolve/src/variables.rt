@@ -4,10 +4,9 @@ ghost use Rattle.std.specs.Prelude.{◌≡◌, map, IfOk};
 ghost use Rattle.ir_model.specs.Plain.{global_of, firmware_of, struct_of};
 ghost use Rattle.ir_model.specs.Layout.{known};
 ghost use Rattle.ir_model.specs.Resolve as resolving;
-ghost use Rattle.ir_program.specs.Seen.{variable_of, cell_count};
+ghost use Rattle.ir_program.specs.Parts.{variable_of, cell_count, global_count};
 ghost use Rattle.ir_program.specs.Values.{value_of};
 ghost use Rattle.ir_resolve.specs.Scopes.{scope_of, AreFew, IsSmall, AreSmallGlobals};
-ghost use Rattle.ir_program.specs.declared.program.Variable.{Variable};
 
 use crate::names::Scope;
 use crate::scope::func_number;
@@ -79,7 +78,7 @@ pub(crate) fn variables<'a>(
     requires few { AreFew scope.now }
     requires small { AreSmallGlobals (known (map struct_of scope.now.layouts)) firmware.now.globals }
     ensures exact { IfOk result (λ vs. map (variable_of (known (map struct_of scope.now.layouts))) vs ≡ map (resolving.resolved_global (scope_of scope.now)) (firmware_of firmware.now).globals) }
-    ensures cells { IfOk result (λ vs. map (λ (v : Variable). v.storage.cells) vs ≡ map cell_count (map (resolving.resolved_global (scope_of scope.now)) (firmware_of firmware.now).globals)) }
+    ensures cells { IfOk result (λ vs. map global_count vs ≡ map cell_count (map (resolving.resolved_global (scope_of scope.now)) (firmware_of firmware.now).globals)) }
 {
     let globals = firmware.globals.as_slice();
     let mut variables = Vec::new(alloc);

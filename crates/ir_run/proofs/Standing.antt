@@ -3,7 +3,7 @@ use Rattle.std.proofs.Common.{◌≡◌, ℕ, zero, suc, ◌<◌, ◌≤◌, Lis
 use Rattle.ir_model.specs.Layout.{Known}
 use Rattle.ir_model.specs.Resolved as plain
 use Rattle.ir_program.specs.declared.program.Operation.{Operation}
-use Rattle.ir_program.specs.Seen.{operation_of}
+use Rattle.ir_program.specs.Parts.{operation_of}
 
 -- before the end: an instruction
 pub here_before : (ks : List Known) (is : List Operation) (t : plain.NumberedTerm) (k : ℕ) (d : Operation) → k < length is

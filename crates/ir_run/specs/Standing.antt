@@ -3,7 +3,7 @@
 use Rattle.std.specs.Prelude.{ℕ, List}
 use Rattle.ir_model.specs.Layout.{Known}
 use Rattle.ir_model.specs.Resolved as plain
-use Rattle.ir_program.specs.Seen.{operation_of, exit_of}
+use Rattle.ir_program.specs.Parts.{operation_of, exit_of}
 use Rattle.ir_run.specs.declared.place.Here.{Here}
 use Rattle.ir_run.specs.declared.place.Here.TheVariants.{Does, Ends}
 use Rattle.ir_run.specs.Places.{HasNext}

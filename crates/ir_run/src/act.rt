@@ -7,7 +7,7 @@ ghost use Rattle.ir_model.specs.Step as step;
 ghost use Rattle.ir_model.specs.Resolved as plain;
 ghost use Rattle.ir_program.specs.Values.{value_of};
 ghost use Rattle.ir_program.specs.Storages.{pointee_of};
-ghost use Rattle.ir_program.specs.Seen.{operation_of, target_of};
+ghost use Rattle.ir_program.specs.Parts.{operation_of, target_of};
 ghost use Rattle.ir_run.specs.Acts.{frame_of, act_of, IsEntry};
 ghost use Rattle.ir_run.specs.Elements.{HasSmallElement};
 

@@ -5,7 +5,8 @@ ghost use Rattle.ir_model.specs.Resolved as plain;
 ghost use Rattle.ir_model.specs.State as state;
 ghost use Rattle.ir_model.specs.Step as step;
 ghost use Rattle.ir_program.specs.Values.{value_of};
-ghost use Rattle.ir_program.specs.Seen.{exit_of, program_of, HasCounts};
+ghost use Rattle.ir_program.specs.Parts.{exit_of};
+ghost use Rattle.ir_program.specs.Seen.{program_of};
 ghost use Rattle.ir_run.specs.Acts.{frame_of};
 ghost use Rattle.ir_run.specs.Places.{HasNext};
 ghost use Rattle.ir_run.specs.States.{running_of, memory_of, Answers};
@@ -33,7 +34,6 @@ pub fn enter(
     func: u16,
     args: &[Value],
 ) -> Result<(), AllocError>
-    requires counts { HasCounts program.now }
     requires next { HasNext parts.old.top.place }
     requires few { parts.old.newest < 2 ^ 64 - 1 }
     ensures ok { OnOk result (running_of parts.new ≡ state.Running (state.frame_of (program_of program.now) func (memory_of parts.old).made (map value_of args.now) ∷ frame_of parts.old.top ∷ map frame_of parts.old.below) (record (memory_of parts.old) { made = suc (memory_of parts.old).made })) }

@@ -10,7 +10,8 @@ ghost use Rattle.ir_program.specs.Storages.{shape_of};
 ghost use Rattle.ir_model.specs.Plain.{struct_of};
 ghost use Rattle.ir_model.specs.Layout.{known};
 ghost use Rattle.ir_cells.specs.Cells.{lent_types, types_of};
-ghost use Rattle.ir_program.specs.Seen.{routine_of, program_of, local_counts, cell_counts, HasCounts};
+ghost use Rattle.ir_program.specs.Parts.{routine_of, local_counts, cell_counts};
+ghost use Rattle.ir_program.specs.Seen.{program_of};
 ghost use Rattle.ir_run.specs.Acts.{frame_of};
 ghost use Rattle.ir_run.specs.Counts.{HasCount, HaveCounts};
 
@@ -129,7 +130,6 @@ pub fn new_frame(
     number: u64,
     args: &[Value],
 ) -> Result<Frame, AllocError>
-    requires { HasCounts program.now }
     ensures { IfOk result (λ f. frame_of f ≡ state.frame_of (program_of program.now) func number (map value_of args.now)) }
 {
     let routines = program.funcs.as_slice();

@@ -4,7 +4,8 @@ ghost use Rattle.std.specs.Prelude.{◌≡◌, List};
 ghost use Rattle.ir_model.specs.Layout.{Known};
 ghost use Rattle.ir_model.specs.Resolved as plain;
 ghost use Rattle.ir_model.specs.Step as step;
-ghost use Rattle.ir_program.specs.Seen.{operation_of, sequence_of, known_of, program_of};
+ghost use Rattle.ir_program.specs.Parts.{operation_of, sequence_of};
+ghost use Rattle.ir_program.specs.Seen.{known_of, program_of};
 ghost use Rattle.ir_run.specs.Standing.{here_of, HasPlaceBehind};
 
 use crate::frame::Frame;

@@ -3,7 +3,7 @@
 ghost use Rattle.std.specs.Prelude.{◌≡◌, ◌-◌, ◌^◌, ◌<◌, IfOk, OnErr, OnOk};
 ghost use Rattle.ir_laws.specs.Laws.{HasOrderedFrames};
 ghost use Rattle.ir_model.specs.Step.{source_turn, source_step};
-ghost use Rattle.ir_program.specs.Seen.{program_of, HasCounts};
+ghost use Rattle.ir_program.specs.Seen.{program_of};
 ghost use Rattle.ir_run.specs.Acts.{IsCall};
 ghost use Rattle.ir_run.specs.Elements.{HasSmallElements};
 ghost use Rattle.ir_run.specs.Runs.{IsAnswer, HasMade};
@@ -42,7 +42,6 @@ fn go_on(
     phase: &mut Phase,
 ) -> Result<SourceStep, AllocError>
     requires ordered { HasOrderedFrames (state_of phase.old) }
-    requires counts { HasCounts program.now }
     requires small { HasSmallElements (program_of program.now) (state_of phase.old) }
     requires few { HasMade (2 ^ 64 - 1) (state_of phase.old) }
     ensures says { IfOk result (λ answer. IsAnswer (source_turn (program_of program.now) compartments.now (state_of phase.old)) answer) }
@@ -82,7 +81,7 @@ impl Drop for SourceRun<'_> {
 }
 
 impl<'a> Model for SourceRun<'a> {
-    ghost use Rattle.ir_program.specs.Seen.{program_of, HasCounts};
+    ghost use Rattle.ir_program.specs.Seen.{program_of};
     ghost use Rattle.ir_run.specs.Runs.{RunState, IsRun};
     ghost use Rattle.ir_run.specs.Phases.{state_of};
 
@@ -95,14 +94,14 @@ impl<'a> Model for SourceRun<'a> {
 
     ghost view = { λ r. record { program = program_of r.program.now; compartments = r.compartments; state = state_of r.phase; taken = r.taken } };
 
-    ghost invariant = { λ r. HasCounts r.program.now × IsRun (record { program = program_of r.program.now; compartments = r.compartments; state = state_of r.phase; taken = r.taken }) };
+    ghost invariant = { λ r. IsRun (record { program = program_of r.program.now; compartments = r.compartments; state = state_of r.phase; taken = r.taken }) };
 }
 
 impl<'a> SourceRun<'a> {
     ghost use Rattle.std.specs.Prelude.{map};
     ghost use Rattle.ir_model.specs.State as state;
     ghost use Rattle.ir_model.specs.Step.{source_turn};
-    ghost use Rattle.ir_program.specs.Seen.{program_of, HasCounts};
+    ghost use Rattle.ir_program.specs.Seen.{program_of};
     ghost use Rattle.ir_program.specs.Values.{value_of};
     ghost use Rattle.ir_run.specs.Acts.{IsCall};
     ghost use Rattle.ir_run.specs.Reads.{spot_of, frames_of, registers_of};
@@ -122,7 +121,6 @@ impl<'a> SourceRun<'a> {
         tape: Tape,
     ) -> Result<SourceRun<'a>, AllocError>
         requires checked { IsChecked (program_of program.now) }
-        requires counts { HasCounts program.now }
         ensures { IfOk result (λ run. run ≡ record {
           program = program_of program.now;
           compartments = compartments.items;

@@ -6,8 +6,8 @@ ghost use Rattle.ir_model.specs.State as state;
 ghost use Rattle.ir_model.specs.Plain.{struct_of};
 ghost use Rattle.ir_model.specs.Layout.{known};
 ghost use Rattle.ir_program.specs.Values.{value_of};
-ghost use Rattle.ir_program.specs.declared.program.Variable.{Variable as VariableOf};
-ghost use Rattle.ir_program.specs.Seen.{variable_of, cell_count, program_of, HasCounts};
+ghost use Rattle.ir_program.specs.Parts.{variable_of, cell_count, global_count};
+ghost use Rattle.ir_program.specs.Seen.{program_of};
 ghost use Rattle.ir_run.specs.States.{running_of};
 
 use crate::below::Below;
@@ -24,7 +24,7 @@ fn initial_contents<'a>(
     layouts: &Layouts<'a>,
     variables: &[Variable<'a>],
 ) -> Result<Contents, AllocError>
-    requires { map (λ (v : VariableOf). v.storage.cells) variables.now ≡ map cell_count (map (variable_of (known (map struct_of layouts.now))) variables.now) }
+    requires { map global_count variables.now ≡ map cell_count (map (variable_of (known (map struct_of layouts.now))) variables.now) }
     ensures { IfOk result (λ gs. map (map value_of) gs ≡ map (λ (o : NumberedGlobal). o.init) (map (variable_of (known (map struct_of layouts.now))) variables.now)) }
 {
     let mut objects = Vec::new(alloc);
@@ -44,7 +44,6 @@ fn initial_contents<'a>(
 /// There is no memory for it.
 #[tactic(auto, unfolding(ir_model::specs::State::start))]
 pub fn initial_parts(alloc: Global, program: &Program, tape: Tape) -> Result<Parts, AllocError>
-    requires { HasCounts program.now }
     ensures { IfOk result (λ s. running_of s ≡ state.start (program_of program.now) tape) }
 {
     let top = new_frame(alloc, program, program.main, 0, &[])?;

@@ -6,7 +6,7 @@ ghost use Rattle.ir_model.specs.Resolved.{global_at};
 ghost use Rattle.ir_model.specs.Step as step;
 ghost use Rattle.ir_program.specs.Values.{value_of, instance_of};
 ghost use Rattle.ir_program.specs.Storages.{pointee_of};
-ghost use Rattle.ir_program.specs.Seen.{program_of, HasCounts};
+ghost use Rattle.ir_program.specs.Seen.{program_of};
 ghost use Rattle.ir_run.specs.Acts.{frame_of, act_of, IsEntry, IsCall};
 ghost use Rattle.ir_run.specs.Elements.{HasSmallElements};
 ghost use Rattle.ir_run.specs.Places.{HasNext};
@@ -118,7 +118,6 @@ pub fn perform(
     asked: Act,
 ) -> Result<SourceStep, AllocError>
     requires ordered { HasOrderedFrames (running_of parts.old) }
-    requires counts { HasCounts program.now }
     requires next { HasNext parts.old.top.place }
     requires few { parts.old.newest < 2 ^ 64 - 1 }
     ensures ok { IfOk result (λ a. Answers (step.perform (program_of program.now) compartments.now (frame_of parts.old.top) (map frame_of parts.old.below) (memory_of parts.old) (act_of asked.entry)) a parts.new) }
@@ -156,7 +155,6 @@ pub fn turn(
     parts: &mut Parts,
 ) -> Result<SourceStep, AllocError>
     requires ordered { HasOrderedFrames (running_of parts.old) }
-    requires counts { HasCounts program.now }
     requires small { HasSmallElements (program_of program.now) (running_of parts.old) }
     requires few { parts.old.newest < 2 ^ 64 - 1 }
     ensures ok { IfOk result (λ a. Answers (step.source_turn (program_of program.now) compartments.now (running_of parts.old)) a parts.new) }

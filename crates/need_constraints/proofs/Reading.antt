@@ -14,7 +14,8 @@ use Rattle.ir_program.specs.declared.program.Routine.{Routine}
 use Rattle.ir_program.specs.declared.program.Sequence.{Sequence}
 use Rattle.ir_program.specs.declared.program.Variable.{Variable}
 use Rattle.ir_program.specs.declared.value.Value as values
-use Rattle.ir_program.specs.Seen.{program_of, known_of, routine_of, sequence_of, variable_of, cell_count, HasCounts}
+use Rattle.ir_program.specs.Parts.{routine_of, sequence_of, variable_of, cell_count, global_count}
+use Rattle.ir_program.specs.Seen.{program_of, known_of}
 use Rattle.ir_program.specs.Storages.{shape_of}
 use Rattle.ir_program.specs.Values.{value_of}
 use Rattle.need_sets.specs.declared.rules.Rules.{Rules}
@@ -51,16 +52,16 @@ filled_asks g (suc n) (c ∷ cs) (v ∷ vs) a b h = ap (λ (l : List Demand). va
     both (inl x) = inl (omega arith)
     both (inr x) = inr (omega arith)
 
-cells_are : (ks : List Known) (vs : List Variable) (g : ℕ) (v : Variable) → map (λ (x : Variable). x.storage.cells) vs ≡ map cell_count (map (variable_of ks) vs) → g < length vs → v ≡ get_or vs g v → v.storage.cells ≡ length (shape_of ks v.storage).cells
+cells_are : (ks : List Known) (vs : List Variable) (g : ℕ) (v : Variable) → map global_count vs ≡ map cell_count (map (variable_of ks) vs) → g < length vs → v ≡ get_or vs g v → v.storage.cells ≡ length (shape_of ks v.storage).cells
 cells_are ks [] g v e l i = absurd (omega arith)
 cells_are ks (x ∷ vs) zero v e l i = subst (λ (y : Variable). y.storage.cells ≡ length (shape_of ks y.storage).cells) (sym i) (ap (λ (xs : List ℕ). get_or xs 0 0) e)
 cells_are ks (x ∷ vs) (suc g) v e l i = cells_are ks vs g v (ap (λ (xs : List ℕ). drop 1 xs) e) (omega arith) i
 
 -- the initial values of a global that was read
-pub values_read : (q : programs.Program) (s : List Variable) (g : ℕ) (v : Variable) (vs : List values.Value) (n : ℕ) → HasCounts q → s ≡ q.globals → v ≡ get_or s g v → g < length q.globals → vs ≡ v.init → n ≤ length vs → n ≤ v.storage.cells → (length vs ≤ n) ⊎ (v.storage.cells ≤ n)
+pub values_read : (q : programs.Program) (s : List Variable) (g : ℕ) (v : Variable) (vs : List values.Value) (n : ℕ) → s ≡ q.globals → v ≡ get_or s g v → g < length q.globals → vs ≡ v.init → n ≤ length vs → n ≤ v.storage.cells → (length vs ≤ n) ⊎ (v.storage.cells ≤ n)
     → flat_map (value_demands g) (map value_of (take n vs)) ≡ global_demands (program_of q) g
-values_read q s g v vs n h e i l f a b d =
-    let c = cells_are (known_of q) q.globals g v h.globals l (i ∙ ap (λ x. get_or x g v) e) in
+values_read q s g v vs n e i l f a b d =
+    let c = cells_are (known_of q) q.globals g v q.cells_of_globals l (i ∙ ap (λ x. get_or x g v) e) in
     let m = length-map v.init value_of in
     let k : length vs ≡ length v.init = ap length f in
     ap (flat_map (value_demands g)) (map-take vs n ∙ ap (λ x. take n (map value_of x)) f)

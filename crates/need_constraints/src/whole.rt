@@ -2,7 +2,8 @@
 
 ghost use Rattle.std.specs.Prelude.{◌≡◌, ◌<◌, ◌≤◌, [], length, map, take, IfOk, OnOk};
 ghost use Rattle.std.specs.List.{flat_map};
-ghost use Rattle.ir_program.specs.Seen.{program_of, known_of, sequence_of, operation_of, HasCounts};
+ghost use Rattle.ir_program.specs.Parts.{sequence_of, operation_of};
+ghost use Rattle.ir_program.specs.Seen.{program_of, known_of};
 ghost use Rattle.ir_program.specs.Values.{value_of};
 ghost use Rattle.plan_model.specs.Lists.{numbers_below};
 ghost use Rattle.need_sets.specs.Demands.{inst_demands, block_demands, func_demands, global_demands, value_demands, demands_of};
@@ -130,7 +131,6 @@ impl<'a> Generator<'a> {
     /// What the initial values in the cells of a global ask.
     fn put_global(&self, rules: &mut Rules<'a>, global: u32) -> Result<(), AllocError>
         requires global { global < length self.now.program.now.globals }
-        requires counts { HasCounts self.now.program.now }
         ensures { OnOk result (Gathers self.now.numbering rules.old rules.new (global_demands (program_of self.now.program.now) global)) }
     {
         let variable = &self.program.globals.as_slice()[global as usize];
@@ -140,7 +140,6 @@ impl<'a> Generator<'a> {
     }
 
     fn put_globals(&self, rules: &mut Rules<'a>) -> Result<(), AllocError>
-        requires { HasCounts self.now.program.now }
         ensures { OnOk result (Gathers self.now.numbering rules.old rules.new (flat_map (global_demands (program_of self.now.program.now)) (numbers_below (length (program_of self.now.program.now).globals)))) }
     {
         for global in 0..count_of(self.program.globals.as_slice())? {
@@ -150,7 +149,6 @@ impl<'a> Generator<'a> {
     }
 
     fn put_program(&self, rules: &mut Rules<'a>) -> Result<(), AllocError>
-        requires { HasCounts self.now.program.now }
         ensures { OnOk result (Gathers self.now.numbering rules.old rules.new (demands_of (program_of self.now.program.now))) }
     {
         self.put_funcs(rules)?;
@@ -159,7 +157,6 @@ impl<'a> Generator<'a> {
 
     /// What the program asks.
     fn rules(&self, alloc: Global) -> Result<Rules<'a>, AllocError>
-        requires { HasCounts self.now.program.now }
         ensures { IfOk result (λ rules. Represents self.now.numbering rules (demands_of (program_of self.now.program.now))) }
     {
         let mut rules = no_rules(alloc, self.numbering.node_count())?;
@@ -178,7 +175,6 @@ pub fn generate<'a>(
     program: &'a Program<'a>,
     numbering: Numbering,
 ) -> Result<System<'a>, AllocError>
-    requires { HasCounts program.now }
     ensures program { IfOk result (λ w. program_of w.program.now ≡ program_of program.now) }
     ensures numbering { IfOk result (λ w. w.numbering ≡ numbering) }
     ensures rules { IfOk result (λ w. Represents numbering w.rules (demands_of (program_of program.now))) }

@@ -4,7 +4,7 @@ ghost use Rattle.std.specs.Prelude.{◌≡◌, ◌-◌, ◌<◌, length, IfOk};
 ghost use Rattle.std.specs.List.{sum};
 ghost use Rattle.ir_laws.specs.Sets.{Node};
 ghost use Rattle.ir_model.specs.State.{Object};
-ghost use Rattle.ir_program.specs.Seen.{program_of, HasCounts};
+ghost use Rattle.ir_program.specs.Seen.{program_of};
 ghost use Rattle.need_sets.specs.Numbers.{numbering_of};
 ghost use Rattle.need_sets.specs.Sets.{Sets, sets_of};
 ghost use Rattle.need_sets.specs.Pairs.{sets_by};
@@ -25,7 +25,6 @@ fn search<L: Ledger>(
     program: &Program,
     steps: &mut StepCount<L>,
 ) -> Result<Pairs, AllocError>
-    requires { HasCounts program.now }
     ensures nodes { IfOk result (λ pairs. length pairs.rows ≡ sum (numbering_of (program_of program.now)).nodes) }
     ensures objects { IfOk result (λ pairs. pairs.objects ≡ sum (numbering_of (program_of program.now)).objects) }
     ensures least { IfOk result (λ pairs. IsLeast (program_of program.now) (sets_by (numbering_of (program_of program.now)) pairs.rows)) }
@@ -49,7 +48,6 @@ pub fn solve_counted<L: Ledger>(
     program: &Program,
     steps: &mut StepCount<L>,
 ) -> Result<PointsTo, AllocError>
-    requires { HasCounts program.now }
     ensures least { IfOk result (λ sets. IsLeast (program_of program.now) (sets_of sets)) }
     ensures steps { IfOk result (λ sets. IsWithinBound (program_of program.now) sets (steps.new - steps.old)) }
 {
@@ -65,7 +63,6 @@ fn solve_on<L: Ledger>(
     requires name { blank.name ≡ L.name }
     requires parts { blank.parts ≡ L.parts }
     requires some { 0 < blank.parts }
-    requires counts { HasCounts program.now }
     ensures { IfOk result (λ sets. IsLeast (program_of program.now) (sets_of sets)) }
 {
     let mut steps = StepCount::<L>::new(blank);
@@ -78,7 +75,6 @@ fn solve_on<L: Ledger>(
 ///
 /// There is no memory for them, or the program names what it does not have.
 pub fn solve(alloc: Global, program: &Program) -> Result<PointsTo, AllocError>
-    requires { HasCounts program.now }
     ensures { IfOk result (λ sets. IsLeast (program_of program.now) (sets_of sets)) }
 {
     solve_on::<Brand>(alloc, program, Blank::new(1))

@@ -8,7 +8,8 @@ use Rattle.ir_model.specs.Layout.{Known}
 use Rattle.ir_model.specs.Resolved.{Program, NumberedFunc}
 use Rattle.ir_program.specs.declared.program.Program as programs
 use Rattle.ir_program.specs.declared.program.Routine.{Routine}
-use Rattle.ir_program.specs.Seen.{program_of, routine_of, variable_of, span_of, known_of}
+use Rattle.ir_program.specs.Parts.{routine_of, variable_of, span_of}
+use Rattle.ir_program.specs.Seen.{program_of, known_of}
 use Rattle.ir_program.specs.Storages.{shape_of}
 use Rattle.need_sets.specs.Numbers.{object_groups, node_groups}
 

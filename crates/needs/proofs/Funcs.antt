@@ -4,7 +4,8 @@ use Rattle.std.proofs.lemmas.List.{get_or-map}
 use Rattle.ir_model.specs.Resolved.{no_func, func_at}
 use Rattle.ir_program.specs.declared.program.Program as programs
 use Rattle.ir_program.specs.declared.program.Routine.{Routine}
-use Rattle.ir_program.specs.Seen.{known_of, program_of, routine_of}
+use Rattle.ir_program.specs.Parts.{routine_of}
+use Rattle.ir_program.specs.Seen.{known_of, program_of}
 
 -- a function that was read
 pub func_read : (q : programs.Program) (s : List Routine) (f : ℕ) (r : Routine) → s ≡ q.funcs → r ≡ get_or s f r → f < length q.funcs

@@ -15,7 +15,8 @@ use Rattle.ir_model.specs.Objects.{object_by, compare_objects}
 use Rattle.ir_model.specs.Signatures.{signature}
 use Rattle.ir_program.specs.declared.program.Program as programs
 use Rattle.ir_program.specs.declared.program.Routine.{Routine}
-use Rattle.ir_program.specs.Seen.{known_of, program_of, routine_of}
+use Rattle.ir_program.specs.Parts.{routine_of}
+use Rattle.ir_program.specs.Seen.{known_of, program_of}
 use Rattle.ir_laws.specs.Sets.{ObjectSets, Register}
 use Rattle.plan_model.specs.Lists.{ListsExactly}
 use Rattle.need_lists.specs.AnyOf.{AnyOf}

@@ -12,7 +12,8 @@ use Rattle.ir_program.specs.declared.program.Operation.TheVariants as operation
 use Rattle.ir_program.specs.declared.program.Program as programs
 use Rattle.ir_program.specs.declared.program.Routine.{Routine}
 use Rattle.ir_program.specs.declared.program.Sequence.{Sequence}
-use Rattle.ir_program.specs.Seen.{known_of, program_of, operation_of, sequence_of, routine_of}
+use Rattle.ir_program.specs.Parts.{operation_of, sequence_of, routine_of}
+use Rattle.ir_program.specs.Seen.{known_of, program_of}
 use Rattle.ir_laws.specs.Sets.{ObjectSets, CallsAt}
 use Rattle.plan_model.specs.declared.needs.SiteNeed.{SiteNeed}
 use Rattle.plan_model.specs.Lists.{ListsExactly}

@@ -3,7 +3,7 @@
 ghost use Rattle.std.specs.Prelude.{◌≡◌, ◌++◌, ◌↔◌, List, map, IfOk, OnOk, Contains, flat_map};
 ghost use Rattle.std.specs.Option.{option_to_list};
 ghost use Rattle.ir_model.specs.Layout.{Known};
-ghost use Rattle.ir_program.specs.Seen.{operation_of, sequence_of};
+ghost use Rattle.ir_program.specs.Parts.{operation_of, sequence_of};
 ghost use Rattle.needs.specs.Uses.{used, uses_in};
 
 use ir_program::program::{Operation, Sequence};

@@ -4,7 +4,8 @@ ghost use Rattle.std.specs.Prelude.{◌≡◌, ◌<◌, ◌++◌, ◌∷◌, [],
 ghost use Rattle.ir_model.specs.Layout.{Known};
 ghost use Rattle.ir_model.specs.Resolved as plain;
 ghost use Rattle.ir_model.specs.Resolved.{Does, func_at, block_at, here};
-ghost use Rattle.ir_program.specs.Seen.{program_of, operation_of};
+ghost use Rattle.ir_program.specs.Parts.{operation_of};
+ghost use Rattle.ir_program.specs.Seen.{program_of};
 ghost use Rattle.ir_laws.specs.Sets.{ObjectSets};
 ghost use Rattle.plan_model.specs.Calls.{calls_from, calls_of};
 ghost use Rattle.needs.specs.Accesses.{HasTargets};

@@ -3,7 +3,8 @@
 
 ghost use Rattle.std.specs.Prelude.{◌≡◌};
 ghost use Rattle.ir_model.specs.Resolved as resolved;
-ghost use Rattle.ir_program.specs.Seen.{program_of, span_of};
+ghost use Rattle.ir_program.specs.Parts.{span_of};
+ghost use Rattle.ir_program.specs.Seen.{program_of};
 ghost use Rattle.plan_denials.specs.Meetings as meetings;
 
 use ir_program::program::{Program, Span};

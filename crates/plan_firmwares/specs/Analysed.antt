@@ -4,7 +4,7 @@ use Rattle.std.specs.Prelude.{◌≡◌, Bool}
 use Rattle.plan_model.specs.declared.policy.Policy.{Policy}
 use Rattle.ir_model.specs.Plain.{PlainFirmware}
 use Rattle.ir_model.specs.Resolve.{resolve}
-use Rattle.ir_program.specs.Seen.{program_of, HasCounts}
+use Rattle.ir_program.specs.Seen.{program_of}
 use Rattle.plan_model.specs.declared.plan.Board.{Board}
 use Rattle.plan_model.specs.Compartments.{AreCompartments}
 use Rattle.plan_compartments.specs.Analyses.{AreNeedsOf}
@@ -19,7 +19,6 @@ use Rattle.plan_firmwares.specs.declared.analysis.Analysis.{Analysis}
 -- policy by them, numbered as those of any policy
 pub record IsAnalysisOf (policy : Policy) (w : PlainFirmware) (closed : Bool) (a : Analysis) : Type 0 where
   pub program : program_of a.program ≡ resolve w
-  pub counts : HasCounts a.program
   pub needs : AreNeedsOf w closed a.needs
   pub groups : a.groups ≡ division policy w a.needs
   pub compartments : AreCompartments (resolve w) a.groups

@@ -3,7 +3,7 @@
 ghost use Rattle.std.specs.Prelude.{◌≡◌, IfOk, IfErr, length};
 ghost use Rattle.ir_model.specs.Plain.{firmware_of, funcs_of};
 ghost use Rattle.ir_model.specs.Resolve as definition;
-ghost use Rattle.ir_program.specs.Seen.{program_of, HasCounts};
+ghost use Rattle.ir_program.specs.Seen.{program_of};
 ghost use Rattle.plan_model.specs.Boards.{IsBoard};
 ghost use Rattle.plan.specs.Planned.{IsPlannedFor};
 ghost use Rattle.plan.specs.Refusals.{IsPlanningRefusal};
@@ -33,7 +33,6 @@ fn needs_of(
     closed: bool,
 ) -> Result<Needs, AllocError>
     requires program { program_of program.now ≡ definition.resolve (firmware_of firmware.now) }
-    requires counts { HasCounts program.now }
     ensures exact { IfOk result (AreNeedsOf (firmware_of firmware.now) closed) }
     ensures each { IfOk result (λ n. length n.funcs ≡ length (funcs_of (firmware_of firmware.now))) }
 {

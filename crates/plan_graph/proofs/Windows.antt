@@ -6,7 +6,8 @@ use Rattle.plan_model.specs.InitialGraph.{cover_of}
 use Rattle.ir_model.specs.Resolved.{NumberedWindow, no_window}
 use Rattle.ir_program.specs.declared.program.Program.{Program}
 use Rattle.ir_program.specs.declared.program.Span.{Span}
-use Rattle.ir_program.specs.Seen.{program_of, span_of}
+use Rattle.ir_program.specs.Parts.{span_of}
+use Rattle.ir_program.specs.Seen.{program_of}
 
 -- of a window that is not there
 abbrev pub no_span : Span

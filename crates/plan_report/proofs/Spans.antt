@@ -5,7 +5,7 @@ use Rattle.std.proofs.lemmas.List.{map-append, get_or-map, length-map}
 use Rattle.std.proofs.lemmas.List.Folds.{list_any-append, list_any_at}
 use Rattle.ir_model.specs.Resolved.{NumberedWindow}
 use Rattle.ir_program.specs.declared.program.Span.{Span}
-use Rattle.ir_program.specs.Seen.{span_of}
+use Rattle.ir_program.specs.Parts.{span_of}
 use Rattle.plan_report.specs.Undeclared.{is_among, is_declared, undeclared_from}
 use Rattle.plan_report.proofs.Growing.{item_more}
 use Rattle.plan_report.proofs.Firsts.{count_is, either}

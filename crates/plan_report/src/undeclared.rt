@@ -1,7 +1,7 @@
 //! The addresses in a compartment's ranges of peripherals that no peripheral declares.
 
 ghost use Rattle.std.specs.Prelude.{◌≡◌, ◌++◌, ◌+◌, ◌-◌, ◌≤◌, ◌<◌, ℕ, OnOk, flat_map, map, true, ◌∷◌, []};
-ghost use Rattle.ir_program.specs.Seen.{span_of};
+ghost use Rattle.ir_program.specs.Parts.{span_of};
 ghost use Rattle.plan_report.specs.CompartmentLines as lines;
 ghost use Rattle.plan_report.specs.Subjects.{subject_of};
 ghost use Rattle.plan_report.specs.Undeclared as undeclared;

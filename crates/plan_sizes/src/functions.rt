@@ -3,7 +3,8 @@
 ghost use Rattle.std.specs.Prelude.{◌≡◌, ◌<◌, length, map, count_by, IfOk, IfSome};
 ghost use Rattle.std.specs.List.{list_any};
 ghost use Rattle.ir_model.specs.Resolved.{func_at};
-ghost use Rattle.ir_program.specs.Seen.{known_of, program_of, routine_of};
+ghost use Rattle.ir_program.specs.Parts.{routine_of};
+ghost use Rattle.ir_program.specs.Seen.{known_of, program_of};
 ghost use Rattle.plan_model.specs.Lists.{numbers_below};
 ghost use Rattle.plan_model.specs.Lending.{is_local};
 ghost use Rattle.code_model.specs.CompartmentCode.{members_from};

@@ -1,7 +1,6 @@
 //! The program that the cases call: the first word says which analysis, the second of which file.
 
 ghost use Rattle.std.specs.Prelude.{◌≡◌, length};
-ghost use Rattle.ir_program.specs.Seen.{HasCounts};
 
 use crate::boards::board_line;
 use crate::function_needs::put_needs;
@@ -113,7 +112,6 @@ fn sets_text(alloc: Global, firmware: &Checked) -> Result<String> {
 }
 
 fn solved_text(alloc: Global, program: &Program) -> Result<String>
-    requires { HasCounts program.now }
 {
     let sets = solve(alloc, program)?;
     text_of_sets(alloc, program, &sets)

@@ -1,6 +1,7 @@
 use Rattle.std.proofs.Common.{length, arith}
 use Rattle.std.proofs.lemmas.List.{length-map}
-use Rattle.ir_program.specs.Seen.{program_of, span_of}
+use Rattle.ir_program.specs.Parts.{span_of}
+use Rattle.ir_program.specs.Seen.{program_of}
 use Rattle.plan_denials.specs.Meetings.{window_meeting, windows_meeting}
 use Rattle.plan_denials.proofs.First.{none_below, here_below}
 use Rattle.plan_denials.proofs.windows_meeting.Goals as goal

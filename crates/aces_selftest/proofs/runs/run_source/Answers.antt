@@ -1,9 +1,9 @@
-use Rattle.std.proofs.Common.{ap, ◌∙◌, length, subst, sym}
+use Rattle.std.proofs.Common.{ap, ◌∙◌, length, subst}
 use Rattle.ir_model.specs.Plain.{firmware_of}
 use Rattle.ir_model.specs.Resolved.{Program}
 use Rattle.ir_model.specs.State.{start}
 use Rattle.ir_program.specs.declared.program.Program.{Program as ProgramNow}
-use Rattle.ir_program.specs.Seen.{program_of, HasCounts}
+use Rattle.ir_program.specs.Seen.{program_of}
 use Rattle.plan_model.specs.declared.groups.Groups.{Groups}
 use Rattle.plan_firmwares.proofs.Counting.{each_resolved}
 use Rattle.aces_selftest.specs.Counts.{IsSourceCount}
@@ -18,9 +18,6 @@ count_of_run-requires-clause-checked c =
       within = c.firmware.ensures.within;
       is = ap program_of c.into_parts-program.ensures.program ∙ c.in_ok-analysis.ensures.exact.program;
     }
-
-pub count_of_run-requires-clause-counts : goal.count_of_run-requires-clause-counts
-count_of_run-requires-clause-counts c = subst HasCounts (sym c.into_parts-program.ensures.program) c.in_ok-analysis.ensures.exact.counts
 
 pub returns : goal.returns
 returns c =

@@ -1,6 +1,7 @@
 use Rattle.std.proofs.Common.{◌+◌, [], length, sym, ap, subst, ◌∙◌, arith}
 use Rattle.std.proofs.lemmas.List.{length_push, length-map}
-use Rattle.ir_program.specs.Seen.{program_of, known_of, routine_of}
+use Rattle.ir_program.specs.Parts.{routine_of}
+use Rattle.ir_program.specs.Seen.{program_of, known_of}
 use Rattle.need_sets.specs.Sets.{sets_of}
 use Rattle.need_lists.proofs.Exact.{each_pushed}
 use Rattle.aces_why.specs.Findings.{AreObjectsIn}

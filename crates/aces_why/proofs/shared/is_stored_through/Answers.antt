@@ -1,5 +1,5 @@
 use Rattle.std.proofs.Common.{sym, ◌∙◌, arith}
-use Rattle.ir_program.specs.Seen.{sequence_of}
+use Rattle.ir_program.specs.Parts.{sequence_of}
 use Rattle.aces_why.specs.Shared.{is_stored_in}
 use Rattle.aces_why.proofs.Numbering.{none_more, one_passes, none_passes}
 use Rattle.aces_why.proofs.shared.is_stored_through.Goals as goal

@@ -1,5 +1,5 @@
 use Rattle.std.proofs.Common.{map, ap, ◌∙◌, ◌++◌, arith}
-use Rattle.ir_program.specs.Seen.{sequence_of}
+use Rattle.ir_program.specs.Parts.{sequence_of}
 use Rattle.aces_why.specs.Shared.{shared_line}
 use Rattle.aces_why.specs.Subjects.{subject_of}
 use Rattle.aces_why.proofs.Numbering.{put_none, put_item, put_items}

@@ -1,6 +1,6 @@
 use Rattle.std.proofs.Common.{◌≡◌, ◌++◌, List, map, take}
 use Rattle.ir_model.specs.Layout.{Known}
-use Rattle.ir_program.specs.Seen.{sequence_of}
+use Rattle.ir_program.specs.Parts.{sequence_of}
 use Rattle.aces_why.specs.Shared.{shared_line}
 use Rattle.aces_why.specs.Numbered.{numbered}
 use Rattle.aces_why.specs.Subjects.{subject_of}

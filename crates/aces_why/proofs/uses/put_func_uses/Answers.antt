@@ -1,5 +1,5 @@
 use Rattle.std.proofs.Common.{sym, arith}
-use Rattle.ir_program.specs.Seen.{sequence_of}
+use Rattle.ir_program.specs.Parts.{sequence_of}
 use Rattle.aces_why.specs.Lines.{block_lines}
 use Rattle.aces_why.specs.Subjects.{subject_of}
 use Rattle.aces_why.proofs.Numbering.{put_none, put_numbered, put_whole}

@@ -1,6 +1,6 @@
 use Rattle.std.proofs.Common.{◌++◌, map, ap, ◌∙◌, append_assoc}
 use Rattle.std.proofs.lemmas.Result.{on_ok_weaker}
-use Rattle.ir_program.specs.Seen.{operation_of}
+use Rattle.ir_program.specs.Parts.{operation_of}
 use Rattle.aces_why.specs.Numbered.{numbered}
 use Rattle.aces_why.specs.Warnings.{unreached_line, const_line}
 use Rattle.aces_why.specs.Subjects.{subject_of}

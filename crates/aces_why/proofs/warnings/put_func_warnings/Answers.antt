@@ -1,6 +1,6 @@
 use Rattle.std.proofs.Common.{◌++◌, map, ap, ◌∙◌, append_assoc}
 use Rattle.std.proofs.lemmas.Result.{on_ok_weaker}
-use Rattle.ir_program.specs.Seen.{sequence_of}
+use Rattle.ir_program.specs.Parts.{sequence_of}
 use Rattle.aces_why.specs.Numbered.{numbered}
 use Rattle.aces_why.specs.Warnings.{uncalled_line, block_warnings}
 use Rattle.aces_why.specs.Subjects.{subject_of}

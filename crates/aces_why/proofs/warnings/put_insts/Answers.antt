@@ -1,5 +1,5 @@
 use Rattle.std.proofs.Common.{arith}
-use Rattle.ir_program.specs.Seen.{operation_of}
+use Rattle.ir_program.specs.Parts.{operation_of}
 use Rattle.aces_why.specs.Warnings.{const_line}
 use Rattle.aces_why.specs.Subjects.{subject_of}
 use Rattle.aces_why.proofs.Numbering.{put_none, put_numbered, put_whole}

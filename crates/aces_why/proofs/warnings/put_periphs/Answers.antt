@@ -1,7 +1,7 @@
 use Rattle.std.proofs.Common.{◌<◌, length, get_or, arith}
 use Rattle.std.proofs.lemmas.List.{get_or_default}
 use Rattle.ir_program.specs.declared.program.Span.{Span}
-use Rattle.ir_program.specs.Seen.{span_of}
+use Rattle.ir_program.specs.Parts.{span_of}
 use Rattle.aces_why.specs.Warnings.{periph_line}
 use Rattle.aces_why.specs.Subjects.{subject_of}
 use Rattle.aces_why.proofs.Numbering.{put_none, put_numbered, put_whole}

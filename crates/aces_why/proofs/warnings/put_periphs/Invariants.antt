@@ -1,5 +1,5 @@
 use Rattle.std.proofs.Common.{◌≡◌, ◌++◌, map, take}
-use Rattle.ir_program.specs.Seen.{span_of}
+use Rattle.ir_program.specs.Parts.{span_of}
 use Rattle.aces_why.specs.Warnings.{periph_line}
 use Rattle.aces_why.specs.Numbered.{numbered}
 use Rattle.aces_why.specs.Subjects.{subject_of}

@@ -1,7 +1,7 @@
 use Rattle.std.proofs.Common.{◌≡◌, ℕ, ◌+◌, ◌<◌, ◌≤◌, ◌++◌, [], map, drop}
 use Rattle.std.specs.List.{All}
 use Rattle.ir_program.specs.Storages.{shape_of}
-use Rattle.ir_program.specs.Seen.{routine_of}
+use Rattle.ir_program.specs.Parts.{routine_of}
 use Rattle.code_model.specs.FrameShape as frames
 use Rattle.code_lower.proofs.frame.local_starts.Given as goal
 use Rattle.ir_model.specs.Typing.{frame_limit}

@@ -1,7 +1,8 @@
 use Rattle.std.proofs.Common.{◌≡◌, ℕ, ◌+◌, ◌-◌, ◌<◌, ◌++◌, List, length, take, drop, replicate, Option, Some, None, ap, ◌∙◌, arith}
 use Rattle.std.proofs.lemmas.List.{length-map}
 use Rattle.machine_thumb_asm.specs.Assembly.{Assembly, here}
-use Rattle.ir_program.specs.Seen.{known_of, sequence_of}
+use Rattle.ir_program.specs.Parts.{sequence_of}
+use Rattle.ir_program.specs.Seen.{known_of}
 use Rattle.code_lower.specs.Subjects.{func_of, first_label, rest_labels}
 use Rattle.code_lower.proofs.Blocks.{this_room, this_near, more_room, more_near, more_items, more_even, more_labels, free_length, free_here, free_next}
 use Rattle.code_lower.proofs.function.put_blocks.Goals as goal

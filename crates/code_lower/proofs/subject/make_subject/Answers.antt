@@ -1,7 +1,8 @@
 use Rattle.std.proofs.Common.{◌≡◌, ℕ, List, length, sym, ap, ◌∙◌, Option}
 use Rattle.std.proofs.lemmas.List.{length-map}
 use Rattle.ir_model.specs.Resolved.{NumberedFunc}
-use Rattle.ir_program.specs.Seen.{known_of, routine_of, sequence_of}
+use Rattle.ir_program.specs.Parts.{routine_of, sequence_of}
+use Rattle.ir_program.specs.Seen.{known_of}
 use Rattle.code_model.specs.FrameShape.{local_starts}
 use Rattle.code_model.specs.Places.{lends_among}
 use Rattle.code_lower.specs.Subjects.{first_label, labels_from}

@@ -2,7 +2,8 @@ use Rattle.std.proofs.Common.{◌≡◌, ◌^◌, ◌≤◌, ℕ, Option, None, 
 use Rattle.std.specs.Option.{IfNone}
 use Rattle.std.proofs.lemmas.Option.{IfSome_then}
 use Rattle.ir_model.specs.Resolved.{func_at}
-use Rattle.ir_program.specs.Seen.{known_of, program_of, routine_of}
+use Rattle.ir_program.specs.Parts.{routine_of}
+use Rattle.ir_program.specs.Seen.{known_of, program_of}
 use Rattle.code_model.specs.FrameShape.{frame_size}
 use Rattle.code_offsets.proofs.Bare.{same_frame_size}
 use Rattle.code_offsets.proofs.frame.frame_size.Goals as goal

@@ -1,6 +1,6 @@
 use Rattle.std.proofs.Common.{[], arith}
 use Rattle.std.proofs.lemmas.Grind.{common_steps}
-use Rattle.ir_program.specs.Seen.{routine_of}
+use Rattle.ir_program.specs.Parts.{routine_of}
 use Rattle.code_offsets.proofs.Offsets.{insts_all}
 use Rattle.code_offsets.proofs.sizes.block_size.Goals as goal
 

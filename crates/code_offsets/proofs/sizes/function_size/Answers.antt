@@ -1,7 +1,8 @@
 use Rattle.std.proofs.Common.{◌≡◌, ◌<◌, [], length, sym, ap, ◌∙◌}
 use Rattle.std.proofs.lemmas.Option.{IfSome_then}
 use Rattle.ir_model.specs.Resolved.{NumberedFunc, func_at}
-use Rattle.ir_program.specs.Seen.{known_of, program_of, routine_of}
+use Rattle.ir_program.specs.Parts.{routine_of}
+use Rattle.ir_program.specs.Seen.{known_of, program_of}
 use Rattle.code_model.specs.Sizes.{function_size}
 use Rattle.code_offsets.proofs.Bare.{same_function_size}
 use Rattle.code_offsets.proofs.sizes.function_size.Goals as goal

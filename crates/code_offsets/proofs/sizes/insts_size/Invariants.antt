@@ -1,6 +1,6 @@
 use Rattle.std.proofs.Common.{◌≡◌, ◌+◌, ℕ, [], map, take}
 use Rattle.ir_model.specs.Resolved.{NumberedFunc}
-use Rattle.ir_program.specs.Seen.{operation_of}
+use Rattle.ir_program.specs.Parts.{operation_of}
 use Rattle.code_model.specs.Sizes as sizes
 use Rattle.code_offsets.proofs.sizes.insts_size.Given as goal
 

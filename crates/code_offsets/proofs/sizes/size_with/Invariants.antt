@@ -1,5 +1,5 @@
 use Rattle.std.proofs.Common.{◌≡◌, ◌+◌, [], map, drop}
-use Rattle.ir_program.specs.Seen.{routine_of, sequence_of}
+use Rattle.ir_program.specs.Parts.{routine_of, sequence_of}
 use Rattle.code_model.specs.Sizes as sizes
 use Rattle.code_offsets.proofs.sizes.size_with.Given as goal
 

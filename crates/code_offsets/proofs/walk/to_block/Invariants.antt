@@ -1,5 +1,5 @@
 use Rattle.std.proofs.Common.{[]}
-use Rattle.ir_program.specs.Seen.{routine_of}
+use Rattle.ir_program.specs.Parts.{routine_of}
 use Rattle.code_offsets.specs.Walks.{IsReached}
 use Rattle.code_offsets.proofs.walk.to_block.Given as goal
 

@@ -1,5 +1,5 @@
 use Rattle.std.proofs.Common.{◌≡◌, ◌+◌, ◌<◌, [], map, take, length, get_or, ap, subst, ◌∙◌, arith}
-use Rattle.ir_program.specs.Seen.{operation_of, routine_of}
+use Rattle.ir_program.specs.Parts.{operation_of, routine_of}
 use Rattle.code_model.specs.Sizes.{insts_size, place_offset}
 use Rattle.code_offsets.proofs.Places.{place_further}
 use Rattle.code_offsets.proofs.walk.to_place.Goals as goal

@@ -1,5 +1,5 @@
 use Rattle.std.proofs.Common.{◌≡◌, ◌++◌, map, drop}
-use Rattle.ir_program.specs.Seen.{span_of}
+use Rattle.ir_program.specs.Parts.{span_of}
 use Rattle.ir_model.specs.Resolved.{NumberedWindow}
 use Rattle.image_blocks.proofs.places.window_addresses.Given as goal
 

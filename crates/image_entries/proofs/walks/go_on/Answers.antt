@@ -1,6 +1,7 @@
 use Rattle.std.proofs.Common.{◌<◌, [], length, get_or, ap, ◌∙◌, arith}
 use Rattle.std.proofs.lemmas.Option.{IfSome_then}
-use Rattle.ir_program.specs.Seen.{program_of, routine_of}
+use Rattle.ir_program.specs.Parts.{routine_of}
+use Rattle.ir_program.specs.Seen.{program_of}
 use Rattle.code_offsets.specs.Walks.{IsReached}
 use Rattle.image_entries.specs.Walked.{IsReachedIn}
 use Rattle.image_entries.proofs.LookedUp.{IsLookedUp, looked_up, reached_bare, reached_there}

@@ -4,7 +4,8 @@ use Rattle.std.proofs.lemmas.List.{length-map}
 use Rattle.std.proofs.lemmas.List.FromFn.{get_or-map-range_with_len}
 use Rattle.machine_thumb_asm.specs.Assembly.{here}
 use Rattle.ir_model.specs.Resolved.{func_at}
-use Rattle.ir_program.specs.Seen.{known_of, routine_of}
+use Rattle.ir_program.specs.Parts.{routine_of}
+use Rattle.ir_program.specs.Seen.{known_of}
 use Rattle.plan_model.specs.Lists.{numbers_below}
 use Rattle.code_model.specs.declared.places.Places.{Places}
 use Rattle.code_model.specs.CompartmentCode.{members_from, before, size_of, entry_of, places_of}

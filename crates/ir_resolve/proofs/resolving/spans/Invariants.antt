@@ -1,6 +1,6 @@
 use Rattle.std.proofs.Common.{◌≡◌, map, take}
 use Rattle.ir_model.specs.Resolve.{window_of}
-use Rattle.ir_program.specs.Seen.{span_of}
+use Rattle.ir_program.specs.Parts.{span_of}
 use Rattle.ir_resolve.proofs.resolving.spans.Given as goal
 
 abbrev pub invariant-loop-periph : goal.invariant-loop-periph

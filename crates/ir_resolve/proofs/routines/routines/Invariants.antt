@@ -2,7 +2,7 @@ use Rattle.std.proofs.Common.{◌≡◌, map, take}
 use Rattle.ir_model.specs.Plain.{func_of, struct_of}
 use Rattle.ir_model.specs.Layout.{known}
 use Rattle.ir_model.specs.Resolve as resolving
-use Rattle.ir_program.specs.Seen.{routine_of, local_counts, cell_counts}
+use Rattle.ir_program.specs.Parts.{routine_of, local_counts, cell_counts}
 use Rattle.ir_resolve.specs.Scopes.{scope_of}
 use Rattle.ir_resolve.proofs.routines.routines.Given as goal
 

@@ -1,6 +1,6 @@
 use Rattle.std.proofs.Common.{sym, ap, ◌∙◌, map}
 use Rattle.ir_model.specs.Resolved as plain
-use Rattle.ir_program.specs.Seen.{operation_of, exit_of}
+use Rattle.ir_program.specs.Parts.{operation_of, exit_of}
 use Rattle.ir_run.proofs.Standing.{here_before, here_behind}
 use Rattle.ir_run.proofs.places.here_in.Goals as goal
 

@@ -4,17 +4,16 @@ use Rattle.ir_model.specs.Layout.{known}
 use Rattle.ir_model.specs.Resolved.{NumberedGlobal}
 use Rattle.ir_model.specs.State.{entered}
 use Rattle.ir_cells.specs.Cells.{types_of}
-use Rattle.ir_program.specs.declared.program.Variable.{Variable}
 use Rattle.ir_program.specs.Values.{value_of}
 use Rattle.ir_program.specs.Storages.{shape_of}
-use Rattle.ir_program.specs.Seen.{variable_of, cell_count}
+use Rattle.ir_program.specs.Parts.{variable_of, cell_count, global_count}
 use Rattle.ir_run.proofs.Counts.{alike_at}
 use Rattle.ir_run.proofs.Filling.{one_more, filled_entered}
 use Rattle.ir_run.proofs.starting.initial_contents.Goals as goal
 
 pub first_contents-requires : goal.first_contents-requires
 first_contents-requires c =
-    alike_at (λ (v : Variable). v.storage.cells) cell_count (variable_of (known (map struct_of c.args.layouts.now))) c.args.variables.now c.loop-i.i c.index-variables-i.result
+    alike_at global_count cell_count (variable_of (known (map struct_of c.args.layouts.now))) c.args.variables.now c.loop-i.i c.index-variables-i.result
     c.requires c.loop-i-test.true c.index-variables-i.is
 
 pub loop-i-preserved : goal.loop-i-preserved

@@ -3,7 +3,7 @@ use Rattle.ir_model.specs.Resolved.{NumberedGlobal}
 use Rattle.ir_model.specs.Plain.{struct_of}
 use Rattle.ir_model.specs.Layout.{known}
 use Rattle.ir_program.specs.Values.{value_of}
-use Rattle.ir_program.specs.Seen.{variable_of}
+use Rattle.ir_program.specs.Parts.{variable_of}
 use Rattle.ir_run.proofs.starting.initial_contents.Given as goal
 
 abbrev pub invariant-loop-i : goal.invariant-loop-i

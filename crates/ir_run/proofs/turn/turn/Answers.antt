@@ -2,7 +2,8 @@ use Rattle.std.proofs.Common.{map, Ok, Err, subst}
 use Rattle.std.proofs.lemmas.Result.{on_err_weaker}
 use Rattle.std.specs.Result.{OnErr}
 use Rattle.ir_model.specs.Step as step
-use Rattle.ir_program.specs.Seen.{program_of, known_of, operation_of}
+use Rattle.ir_program.specs.Parts.{operation_of}
+use Rattle.ir_program.specs.Seen.{program_of, known_of}
 use Rattle.ir_run.specs.Acts.{frame_of, act_of, IsEntry, IsCall}
 use Rattle.ir_run.specs.States.{running_of, memory_of}
 use Rattle.ir_run.proofs.Called.{calls}

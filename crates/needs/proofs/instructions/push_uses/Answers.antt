@@ -1,5 +1,5 @@
 use Rattle.std.proofs.Common.{arith}
-use Rattle.ir_program.specs.Seen.{operation_of}
+use Rattle.ir_program.specs.Parts.{operation_of}
 use Rattle.needs.specs.Uses.{used}
 use Rattle.needs.proofs.Joined.{more, whole}
 use Rattle.needs.proofs.instructions.push_uses.Goals as goal

@@ -4,7 +4,7 @@ use Rattle.std.specs.List.{flat_map}
 use Rattle.std.proofs.lemmas.Result.{IfOk-weaker}
 use Rattle.ir_model.specs.Resolved.{NumberedBlock}
 use Rattle.ir_program.specs.declared.program.Sequence.{Sequence}
-use Rattle.ir_program.specs.Seen.{operation_of, sequence_of}
+use Rattle.ir_program.specs.Parts.{operation_of, sequence_of}
 use Rattle.needs.specs.Uses.{used}
 use Rattle.needs.proofs.Joined.{more, whole}
 use Rattle.needs.proofs.instructions.uses.Goals as goal

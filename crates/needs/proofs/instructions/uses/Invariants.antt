@@ -1,6 +1,6 @@
 use Rattle.std.proofs.Common.{◌≡◌, List, map, take}
 use Rattle.ir_model.specs.Layout.{Known}
-use Rattle.ir_program.specs.Seen.{sequence_of}
+use Rattle.ir_program.specs.Parts.{sequence_of}
 use Rattle.needs.specs.Uses.{uses_in}
 use Rattle.needs.proofs.instructions.uses.Given as goal
 

@@ -5,7 +5,8 @@ use Rattle.std.specs.Ordering.{nat_cmp}
 use Rattle.ir_model.specs.Objects.{object_by, compare_objects}
 use Rattle.ir_model.specs.Resolved.{func_at}
 use Rattle.ir_model.specs.State.{PeriphObject}
-use Rattle.ir_program.specs.Seen.{program_of, known_of, sequence_of}
+use Rattle.ir_program.specs.Parts.{sequence_of}
+use Rattle.ir_program.specs.Seen.{program_of, known_of}
 use Rattle.ir_laws.specs.Sets.{IsRead, IsWritten}
 use Rattle.need_sets.specs.Sets.{sets_of}
 use Rattle.plan_model.specs.Lists.{ListsExactly}

@@ -1,7 +1,8 @@
 use Rattle.std.proofs.Common.{◌<◌, length, sym, ap, subst, ◌∙◌, arith}
 use Rattle.std.proofs.lemmas.List.{length-map}
 use Rattle.ir_model.specs.Resolved.{func_at}
-use Rattle.ir_program.specs.Seen.{program_of, known_of, operation_of}
+use Rattle.ir_program.specs.Parts.{operation_of}
+use Rattle.ir_program.specs.Seen.{program_of, known_of}
 use Rattle.needs.specs.Uses.{UsedAt}
 use Rattle.needs.proofs.Walked.{ops_read, op_there, call_below, same_adds, adds_more, calls_more}
 use Rattle.needs.proofs.sites.push_block_sites.Goals as goal

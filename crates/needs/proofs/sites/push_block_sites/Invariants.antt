@@ -1,5 +1,6 @@
 use Rattle.std.proofs.Common.{map, take}
-use Rattle.ir_program.specs.Seen.{program_of, known_of, operation_of}
+use Rattle.ir_program.specs.Parts.{operation_of}
+use Rattle.ir_program.specs.Seen.{program_of, known_of}
 use Rattle.ir_laws.specs.Sets.{ObjectSets}
 use Rattle.plan_model.specs.Calls.{calls_from}
 use Rattle.needs.specs.Accesses.{HasTargets}

@@ -3,7 +3,7 @@ use Rattle.std.specs.Ordering.{nat_cmp}
 use Rattle.std.proofs.lemmas.List.{get_or_default}
 use Rattle.std.proofs.lemmas.Result.{on_ok_weaker}
 use Rattle.ir_model.specs.Resolved.{Does}
-use Rattle.ir_program.specs.Seen.{operation_of}
+use Rattle.ir_program.specs.Parts.{operation_of}
 use Rattle.plan_model.specs.Lists.{ListsExactly}
 use Rattle.plan_model.specs.Calls.{calls_from}
 use Rattle.needs.specs.Accesses.{IsTarget}

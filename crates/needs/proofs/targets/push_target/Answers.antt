@@ -2,7 +2,8 @@ use Rattle.std.proofs.Common.{◌<◌, length, sym, ap, subst, ◌∙◌}
 use Rattle.std.proofs.lemmas.Bool.{false≢true}
 use Rattle.ir_model.specs.Types.{Callee, type_of}
 use Rattle.ir_model.specs.Objects.{object_by}
-use Rattle.ir_program.specs.Seen.{program_of, known_of, routine_of}
+use Rattle.ir_program.specs.Parts.{routine_of}
+use Rattle.ir_program.specs.Seen.{program_of, known_of}
 use Rattle.needs.proofs.Funcs.{func_read}
 use Rattle.needs.proofs.FunctionTargets.{target_pushed, target_left}
 use Rattle.needs.proofs.targets.push_target.Goals as goal

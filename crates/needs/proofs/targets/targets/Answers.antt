@@ -6,7 +6,8 @@ use Rattle.std.proofs.lemmas.List.Elements.{Contains-get_or}
 use Rattle.std.proofs.lemmas.Result.{IfOk-weaker}
 use Rattle.ir_model.specs.declared.object.ObjId.TheVariants.{Global}
 use Rattle.ir_model.specs.Types.{type_of}
-use Rattle.ir_program.specs.Seen.{program_of, known_of, routine_of}
+use Rattle.ir_program.specs.Parts.{routine_of}
+use Rattle.ir_program.specs.Seen.{program_of, known_of}
 use Rattle.ir_laws.specs.Sets.{Register}
 use Rattle.need_sets.specs.Sets.{sets_of}
 use Rattle.needs.specs.Accesses.{IsTarget}

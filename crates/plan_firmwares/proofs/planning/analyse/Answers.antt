@@ -17,7 +17,6 @@ invariant_of-result c =
 pub returns-clause-exact : goal.returns-clause-exact
 returns-clause-exact c = record {
   program = c.in_ok-program.ensures.exact;
-  counts = c.in_ok-program.ensures.counts;
   needs = c.in_ok-needs.ensures.exact;
   groups = c.in_ok-groups.ensures.by;
   compartments = c.in_ok-groups.ensures.are;

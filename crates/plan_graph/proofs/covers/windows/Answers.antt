@@ -1,6 +1,7 @@
 use Rattle.std.proofs.Common.{◌≡◌, ℕ, ◌<◌, Bool, length, map, filter, ap, sym, ◌∙◌, arith}
 use Rattle.std.proofs.lemmas.List.{length-map}
-use Rattle.ir_program.specs.Seen.{program_of, span_of}
+use Rattle.ir_program.specs.Parts.{span_of}
+use Rattle.ir_program.specs.Seen.{program_of}
 use Rattle.plan_model.specs.Groups.{uses}
 use Rattle.plan_model.specs.InitialGraph.{cover_of}
 use Rattle.plan_model.specs.Lists.{numbers_below}

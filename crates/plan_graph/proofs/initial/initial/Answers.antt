@@ -1,6 +1,7 @@
 use Rattle.std.proofs.Common.{◌≡◌, List, map, filter, length, ap, ◌∙◌, arith}
 use Rattle.std.proofs.lemmas.List.{length-map}
-use Rattle.ir_program.specs.Seen.{program_of, variable_of, known_of}
+use Rattle.ir_program.specs.Parts.{variable_of}
+use Rattle.ir_program.specs.Seen.{program_of, known_of}
 use Rattle.plan_model.specs.InitialGraph.{has_users, same_users}
 use Rattle.plan_model.specs.Lists.{distinct}
 use Rattle.plan_graph.specs.declared.users.UserLists.{UserLists}

@@ -1,5 +1,5 @@
 use Rattle.std.proofs.Common.{◌≡◌, false, map, take}
-use Rattle.ir_program.specs.Seen.{span_of}
+use Rattle.ir_program.specs.Parts.{span_of}
 use Rattle.plan_report.specs.Undeclared.{is_declared}
 use Rattle.plan_report.proofs.undeclared.behind.Given as goal
 

@@ -1,7 +1,7 @@
 use Rattle.std.proofs.Common.{◌+◌, ◌-◌, List, map, get_or, refl, ap, ◌∙◌, arith}
 use Rattle.std.proofs.lemmas.List.{take_all}
 use Rattle.ir_program.specs.declared.program.Span.{Span}
-use Rattle.ir_program.specs.Seen.{span_of}
+use Rattle.ir_program.specs.Parts.{span_of}
 use Rattle.plan_graph.proofs.Windows.{no_span}
 use Rattle.plan_report.specs.Undeclared.{undeclared_from}
 use Rattle.plan_report.proofs.Spans.{first_of_none, first_more}

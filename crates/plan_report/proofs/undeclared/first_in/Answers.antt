@@ -1,5 +1,5 @@
 use Rattle.std.proofs.Common.{arith}
-use Rattle.ir_program.specs.Seen.{span_of}
+use Rattle.ir_program.specs.Parts.{span_of}
 use Rattle.plan_report.proofs.Spans.{first_here, first_behind}
 use Rattle.plan_report.proofs.undeclared.first_in.Goals as goal
 use Rattle.plan_report.proofs.undeclared.first_in.Goals.{else-first-end-via-then-first-end+else-first-end_of, else-first-end-via-else-first-end}

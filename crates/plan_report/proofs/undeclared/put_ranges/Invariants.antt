@@ -1,5 +1,5 @@
 use Rattle.std.proofs.Common.{◌≡◌, ◌++◌, ◌-◌, ◌<◌, ◌≤◌, true, flat_map, map}
-use Rattle.ir_program.specs.Seen.{span_of}
+use Rattle.ir_program.specs.Parts.{span_of}
 use Rattle.plan_report.specs.CompartmentLines.{undeclared_line}
 use Rattle.plan_report.specs.Undeclared.{undeclared_ranges}
 use Rattle.plan_report.proofs.Gaps.{ranges_from, is_edge}

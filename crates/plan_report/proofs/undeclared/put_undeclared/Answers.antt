@@ -1,6 +1,6 @@
 use Rattle.std.proofs.Common.{◌<◌, ◌++◌, ℕ, List, length, take, map, flat_map, ap, subst, ◌∙◌}
 use Rattle.ir_program.specs.declared.program.Span.{Span}
-use Rattle.ir_program.specs.Seen.{span_of}
+use Rattle.ir_program.specs.Parts.{span_of}
 use Rattle.plan_model.specs.declared.graph.Cover.{Cover}
 use Rattle.plan_model.specs.Covers.{cover_at, no_cover}
 use Rattle.plan_report.specs.Subjects.{Subject, subject_of}

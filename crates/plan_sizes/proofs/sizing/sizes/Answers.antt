@@ -1,6 +1,7 @@
 use Rattle.std.proofs.Common.{◌≡◌, ℕ, ◌+◌, ◌*◌, List, length, ap, sym, ◌∙◌}
 use Rattle.std.proofs.lemmas.List.{length-map}
-use Rattle.ir_program.specs.Seen.{known_of, program_of, routine_of}
+use Rattle.ir_program.specs.Parts.{routine_of}
+use Rattle.ir_program.specs.Seen.{known_of, program_of}
 use Rattle.plan_model.specs.declared.needs.SiteNeed.{SiteNeed}
 use Rattle.plan_model.specs.declared.plan.Sizes.{Sizes}
 use Rattle.plan_model.specs.Crossing.{crossing_sites}

@@ -2,7 +2,8 @@ use Rattle.std.proofs.Common.{List, map, ap}
 use Rattle.std.specs.List.{flat_map}
 use Rattle.std.proofs.lemmas.Result.{on_ok_weaker}
 use Rattle.ir_program.specs.declared.program.Operation.{Operation}
-use Rattle.ir_program.specs.Seen.{program_of, known_of, operation_of, exit_of}
+use Rattle.ir_program.specs.Parts.{operation_of, exit_of}
+use Rattle.ir_program.specs.Seen.{program_of, known_of}
 use Rattle.need_sets.specs.Demands.{inst_demands, end_demands}
 use Rattle.need_constraints.proofs.Gathering.{gathers_more, gathers_same}
 use Rattle.need_constraints.proofs.generator.Generator.put_block.Goals as goal

@@ -1,6 +1,7 @@
 use Rattle.std.proofs.Common.{map, take}
 use Rattle.std.specs.List.{flat_map}
-use Rattle.ir_program.specs.Seen.{program_of, known_of, sequence_of}
+use Rattle.ir_program.specs.Parts.{sequence_of}
+use Rattle.ir_program.specs.Seen.{program_of, known_of}
 use Rattle.need_sets.specs.Demands.{block_demands}
 use Rattle.need_sets.specs.Gathered.{Gathers}
 use Rattle.need_constraints.proofs.generator.Generator.put_blocks.Given as goal

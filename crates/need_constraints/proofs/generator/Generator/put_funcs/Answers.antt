@@ -1,6 +1,7 @@
 use Rattle.std.proofs.Common.{◌≡◌, length, ap, arith}
 use Rattle.std.proofs.lemmas.List.{length-map}
-use Rattle.ir_program.specs.Seen.{program_of, routine_of, known_of}
+use Rattle.ir_program.specs.Parts.{routine_of}
+use Rattle.ir_program.specs.Seen.{program_of, known_of}
 use Rattle.need_sets.specs.Demands.{func_demands}
 use Rattle.need_constraints.proofs.Gathering.{gathers_none, numbers_more, numbers_all}
 use Rattle.need_constraints.proofs.generator.Generator.put_funcs.Goals as goal

@@ -1,5 +1,6 @@
 use Rattle.std.proofs.Common.{arith}
-use Rattle.ir_program.specs.Seen.{program_of, known_of, operation_of}
+use Rattle.ir_program.specs.Parts.{operation_of}
+use Rattle.ir_program.specs.Seen.{program_of, known_of}
 use Rattle.need_sets.specs.Demands.{inst_demands}
 use Rattle.need_constraints.proofs.Gathering.{gathers_none, items_more, items_all}
 use Rattle.need_constraints.proofs.generator.Generator.put_operations.Goals as goal
