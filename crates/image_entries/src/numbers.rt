@@ -14,6 +14,7 @@ ghost use Rattle.plan_model.specs.CompileLimits.{site_limit};
 
 use base_lists::ListVec;
 use code_model::CallSite;
+use ir_program::locals::local_count;
 use ir_program::program::Program;
 use plan_crossings::call_sites;
 use plan_model::limits::{LENT_LIMIT, SITE_LIMIT};
@@ -81,16 +82,6 @@ fn lend_numbers(
         numbers.push(lend_number(lent, func, local))?;
     }
     Ok(numbers)
-}
-
-/// How many locals a function has.
-fn local_count(program: &Program, func: usize) -> usize
-    ensures { result ≡ length (func_at (program_of program.now) func).locals }
-{
-    match program.funcs.as_slice().get(func) {
-        Some(routine) => routine.locals.len(),
-        None => 0,
-    }
 }
 
 /// The numbers of the locals of each function among those that are lent.

@@ -10,20 +10,11 @@ ghost use Rattle.needs.specs.Lent.{HasFewLocals, Lends, IsLentBy, IsOwnOf, IsLen
 
 use crate::recursive;
 use ir_model::object::ObjId;
+use ir_program::locals::local_count;
 use ir_program::program::Program;
 use need_lists::each_once;
 use plan_model::needs::FuncNeed;
 use std::alloc::{AllocError, Global};
-
-/// How many locals a function has; 0 for an absent one.
-fn local_count(program: &Program, func: usize) -> usize
-    ensures { result ≡ length (func_at (program_of program.now) func).locals }
-{
-    match program.funcs.as_slice().get(func) {
-        Some(routine) => routine.locals.len(),
-        None => 0,
-    }
-}
 
 /// Whether a function is there, and has a local.
 fn has_local(program: &Program, func: u32, local: u32) -> bool
