@@ -1,6 +1,6 @@
 //! The locals that may have to be written or read while their function waits for another.
 
-ghost use Rattle.std.specs.Prelude.{◌≡◌, ◌↔◌, ◌<◌, ◌^◌, ◌⊎◌, ℕ, IfOk, OnOk, IsTrue, Contains, length};
+ghost use Rattle.std.specs.Prelude.{◌↔◌, ◌<◌, ◌^◌, ◌⊎◌, ℕ, IfOk, OnOk, IsTrue, Contains, length};
 ghost use Rattle.ir_model.specs.Resolved.{func_at};
 ghost use Rattle.ir_program.specs.Seen.{program_of};
 ghost use Rattle.plan_model.specs.Lists.{ListsExactly};

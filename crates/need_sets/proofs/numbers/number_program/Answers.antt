@@ -1,4 +1,4 @@
-use Rattle.std.proofs.Common.{◌≡◌, length, arith}
+use Rattle.std.proofs.Common.{arith}
 use Rattle.std.proofs.lemmas.List.{length-map}
 use Rattle.ir_program.specs.Parts.{routine_of}
 use Rattle.ir_program.specs.Seen.{program_of, known_of}
