@@ -42,7 +42,7 @@ fn count_of_run(
     compartments: Vec<u32>,
     tape: Tape,
 ) -> Result<SourceCount, AllocError>
-    requires checked { IsChecked (program_of program.now) }
+    requires { IsChecked (program_of program.now) }
     ensures { IfOk result (IsSourceCount (program_of program.now) compartments.items source_limit (start (program_of program.now) tape)) }
 {
     let mut run = SourceRun::start(alloc, program, compartments, tape)?;

@@ -41,7 +41,7 @@ fn halt_of_run(
     tape: Tape,
     steps: u32,
 ) -> Result<Halt, AllocError>
-    requires program { program_of program.now ≡ resolve (firmware_of firmware.now) }
+    requires { program_of program.now ≡ resolve (firmware_of firmware.now) }
     ensures { IfOk result (IsHalt (resolve (firmware_of firmware.now)) compartments.now steps (start (resolve (firmware_of firmware.now)) tape)) }
 {
     let standing = Vec::from_slice(alloc, compartments)?;
@@ -62,7 +62,7 @@ fn lines_of(
     tape: Tape,
     halt: Halt,
 ) -> Result<Vec<u8>, AllocError>
-    requires program { program_of program.now ≡ resolve (firmware_of firmware.now) }
+    requires { program_of program.now ≡ resolve (firmware_of firmware.now) }
     ensures { IfOk result (λ lines. lines.items ≡ halt_lines (firmware_of firmware.now) compartments.now tape halt) }
 {
     let standing = Vec::from_slice(alloc, compartments)?;

@@ -185,7 +185,7 @@ pub fn findings(
     firmware: &Checked,
     program: &Program,
 ) -> Result<Findings, AllocError>
-    requires program { program_of program.now ≡ definition.resolve (firmware_of firmware.now) }
+    requires { program_of program.now ≡ definition.resolve (firmware_of firmware.now) }
     ensures { IfOk result (found.AreFindingsOf (program_of program.now)) }
 {
     firmware.firmware();

@@ -69,7 +69,7 @@ pub fn run_at_start<'a>(
     compartments: Vec<u32>,
     tape: Tape,
 ) -> Result<SourceRun<'a>, AllocError>
-    requires program { program_of program.now ≡ resolve (firmware_of firmware.now) }
+    requires { program_of program.now ≡ resolve (firmware_of firmware.now) }
     ensures run { IfOk result (λ run. run ≡ source_run (firmware_of firmware.now) compartments.items tape) }
     ensures within { OnOk result (IsWithinLimits (firmware_of firmware.now)) }
 {

@@ -120,7 +120,7 @@ impl<'a> SourceRun<'a> {
         compartments: Vec<u32>,
         tape: Tape,
     ) -> Result<SourceRun<'a>, AllocError>
-        requires checked { IsChecked (program_of program.now) }
+        requires { IsChecked (program_of program.now) }
         ensures { IfOk result (λ run. run ≡ record {
           program = program_of program.now;
           compartments = compartments.items;

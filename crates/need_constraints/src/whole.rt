@@ -130,7 +130,7 @@ impl<'a> Generator<'a> {
 
     /// What the initial values in the cells of a global ask.
     fn put_global(&self, rules: &mut Rules<'a>, global: u32) -> Result<(), AllocError>
-        requires global { global < length self.now.program.now.globals }
+        requires { global < length self.now.program.now.globals }
         ensures { OnOk result (Gathers self.now.numbering rules.old rules.new (global_demands (program_of self.now.program.now) global)) }
     {
         let variable = &self.program.globals.as_slice()[global as usize];

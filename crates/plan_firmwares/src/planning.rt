@@ -32,7 +32,7 @@ fn needs_of(
     program: &Program,
     closed: bool,
 ) -> Result<Needs, AllocError>
-    requires program { program_of program.now ≡ definition.resolve (firmware_of firmware.now) }
+    requires { program_of program.now ≡ definition.resolve (firmware_of firmware.now) }
     ensures exact { IfOk result (AreNeedsOf (firmware_of firmware.now) closed) }
     ensures each { IfOk result (λ n. length n.funcs ≡ length (funcs_of (firmware_of firmware.now))) }
 {

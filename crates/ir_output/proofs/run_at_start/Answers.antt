@@ -6,13 +6,13 @@ use Rattle.ir_output.proofs.run_at_start.Goals as goal
 pub returns-clause-run : goal.returns-clause-run
 returns-clause-run c =
     begins.begun (firmware_of c.args.firmware.now) c.args.tape (program_of c.args.program.now) c.args.compartments.items c.in_ok-run.run'
-    c.in_ok-run.ensures c.requires.program
+    c.in_ok-run.ensures c.requires
 
-pub start-requires-clause-checked : goal.start-requires-clause-checked
-start-requires-clause-checked c =
+pub start-requires : goal.start-requires
+start-requires c =
     record {
       firmware = firmware_of c.args.firmware.now;
       typed = c.firmware.ensures.typed;
       within = c.firmware.ensures.within;
-      is = c.requires.program;
+      is = c.requires;
     }

@@ -10,8 +10,8 @@ use Rattle.aces_selftest.specs.Counts.{IsSourceCount}
 use Rattle.aces_selftest.specs.Answers.{source_limit}
 use Rattle.aces_selftest.proofs.runs.run_source.Goals as goal
 
-pub count_of_run-requires-clause-checked : goal.count_of_run-requires-clause-checked
-count_of_run-requires-clause-checked c =
+pub count_of_run-requires : goal.count_of_run-requires
+count_of_run-requires c =
     record {
       firmware = firmware_of c.args.firmware.now;
       typed = c.firmware.ensures.typed;

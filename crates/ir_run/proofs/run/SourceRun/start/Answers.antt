@@ -5,4 +5,4 @@ use Rattle.ir_run.proofs.run.SourceRun.start.Goals as goal
 
 pub invariant_of-result : goal.invariant_of-result
 invariant_of-result c =
-    first_run c.frames.ensures (program_of c.args.program.now) c.new.result c.args.tape (running_of c.in_ok-parts.parts) c.requires.checked c.in_ok-parts.ensures
+    first_run c.frames.ensures (program_of c.args.program.now) c.new.result c.args.tape (running_of c.in_ok-parts.parts) c.requires c.in_ok-parts.ensures

@@ -11,5 +11,5 @@ returns c =
     elim (cases_lt (length c.as_slice-values.result.now) c.index-as_slice-global.result.storage.cells) [ inl h ↦ inl (omega arith) | inr h ↦ inr (omega arith) ] in
     on_ok_weaker c.put_values.result
     (λ h. gathers_same c.args.self.now.numbering c.args.rules.now c.put_values.new.rules _ _
-    (values_read c.args.self.now.program.now c.as_slice.result.now c.args.global c.index-as_slice-global.result c.as_slice-values.result.now c.min-count.result c.as_slice.ensures c.index-as_slice-global.is c.requires.global c.as_slice-values.ensures (omega arith) (omega arith) d) h)
+    (values_read c.args.self.now.program.now c.as_slice.result.now c.args.global c.index-as_slice-global.result c.as_slice-values.result.now c.min-count.result c.as_slice.ensures c.index-as_slice-global.is c.requires c.as_slice-values.ensures (omega arith) (omega arith) d) h)
     c.put_values.ensures
