@@ -111,8 +111,7 @@ fn sets_text(alloc: Global, firmware: &Checked) -> Result<String> {
     solved_text(alloc, &program)
 }
 
-fn solved_text(alloc: Global, program: &Program) -> Result<String>
-{
+fn solved_text(alloc: Global, program: &Program) -> Result<String> {
     let sets = solve(alloc, program)?;
     text_of_sets(alloc, program, &sets)
 }
